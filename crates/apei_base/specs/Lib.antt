@@ -1,0 +1,5 @@
+pub mod Refusal
+pub mod Region
+pub mod Table
+pub mod Text
+pub mod Width

@@ -1,0 +1,4 @@
+pub mod Built
+pub mod Hest
+pub mod Source
+pub mod Text
