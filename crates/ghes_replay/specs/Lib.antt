@@ -1,0 +1,5 @@
+pub mod Blocks
+pub mod Call
+pub mod Execute
+pub mod History
+pub mod Kept

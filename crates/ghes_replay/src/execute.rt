@@ -1,0 +1,92 @@
+ghost use Rattle.std.specs.Prelude.{◌≡◌, ◌<◌, ◌^◌, [], length, OnOk};
+
+use crate::blocks::Blocks;
+use crate::call::call;
+use crate::pending::Pending;
+use crate::{AckState, Call, Ledger, Line, Reply, What};
+use apei_base::Bytes;
+use std::alloc::{AllocError, Global};
+
+/// The state of a replay between two lines.
+#[derive(Debug, Drop)]
+pub(crate) struct Replay {
+    pub blocks: Blocks,
+    pub pending: Pending,
+    pub ledger: Ledger,
+}
+
+ghost use Rattle.ghes_replay.specs.Execute.{drained, called, worked, marked, executed};
+ghost use Rattle.ghes_replay.specs.History.{act_of, script_end};
+
+// Delivers each packet, the oldest first.
+fn drain(alloc: Global, pending: &mut Pending, ledger: &mut Ledger) -> Result<(), AllocError>
+    ensures pending { OnOk result (pending.new ≡ []) }
+    ensures ledger { OnOk result (ledger.new ≡ drained pending.old ledger.old) }
+{
+    while let Some(packet) = pending.take_first() {
+        ledger.enter_delivery(alloc, packet)?;
+    }
+    Ok(())
+}
+
+impl Replay {
+    pub fn new(alloc: Global) -> Replay
+        ensures blocks { result.blocks ≡ record { made = []; acknowledged = 0 } }
+        ensures pending { result.pending ≡ [] }
+        ensures ledger { result.ledger ≡ record { calls = []; taken = []; reports = []; marks = [] } }
+    {
+        Replay {
+            blocks: Blocks::new(alloc),
+            pending: Pending::new(alloc),
+            ledger: Ledger::new(alloc),
+        }
+    }
+
+    // One call on a source, and its entry in the ledger.
+    fn call(&mut self, alloc: Global, source: u16) -> Result<(), AllocError>
+        requires { length self.old.blocks.made < 2 ^ 32 }
+        ensures { OnOk result (self.new ≡ called source self.old) }
+    {
+        let outcome = call(alloc, source, &mut self.blocks, &mut self.pending)?;
+        self.ledger.enter_call(Call {
+            context: 0,
+            source,
+            now: 0,
+            reply: Reply {
+                outcome,
+                ack: AckState::NotAsked,
+            },
+        })
+    }
+
+    // Delivers all that is pending.
+    fn work(&mut self, alloc: Global) -> Result<(), AllocError>
+        ensures { OnOk result (self.new ≡ worked self.old) }
+    {
+        drain(alloc, &mut self.pending, &mut self.ledger)
+    }
+
+    /// Executes one line, and marks it.
+    pub fn execute(&mut self, alloc: Global, line: &Line) -> Result<(), AllocError>
+        requires { length self.old.blocks.made < 2 ^ 32 }
+        ensures { OnOk result (self.new ≡ executed (act_of line.now) self.old) }
+    {
+        match &line.what {
+            What::Raise(_, block) => {
+                let block = Bytes::copy(alloc, block.as_slice())?;
+                self.blocks.raise(block)?;
+            }
+            What::Nmi(source) => self.call(alloc, *source)?,
+            What::Work => self.work(alloc)?,
+        }
+        self.ledger.enter_mark(line.number)
+    }
+
+    /// Executes the end of the script: delivers all that is pending, and marks the end.
+    pub fn finish(&mut self, alloc: Global) -> Result<(), AllocError>
+        ensures { OnOk result (self.new ≡ executed script_end self.old) }
+    {
+        self.work(alloc)?;
+        self.ledger.enter_mark(0)
+    }
+}

@@ -1,0 +1,13 @@
+//! Replays a script of hardware errors: from a table and a script to the ledger of what became of each block, and its text.
+#![tactic(auto)]
+
+mod blocks;
+mod call;
+mod execute;
+mod ledger;
+mod line;
+mod pending;
+
+pub use ledger::{AckState, Call, Ledger, Mark, Outcome, Reply, Report, Reported, Taken};
+pub use line::{Line, What};
+pub use pending::Packet;
