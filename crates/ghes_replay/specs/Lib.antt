@@ -3,3 +3,4 @@ pub mod Call
 pub mod Execute
 pub mod History
 pub mod Kept
+pub mod Text

@@ -7,6 +7,7 @@ mod execute;
 mod ledger;
 mod line;
 mod pending;
+mod text;
 
 pub use ledger::{AckState, Call, Ledger, Mark, Outcome, Reply, Report, Reported, Taken};
 pub use line::{Line, What};
