@@ -1,5 +1,5 @@
 -- One call of the receiver: its outcome, and what each outcome changes.
-use Rattle.std.specs.Prelude.{◌≡◌, ℕ, List, [], ◌∷◌, ◌++◌, length, nat_le, if◌then◌else◌, Option, Some, None}
+use Rattle.std.specs.Prelude.{◌≡◌, ℕ, List, [], ◌∷◌, ◌++◌, length, nat_le, Bool, true, false, slice_get, Option, Some, None}
 use Rattle.ghes_replay.specs.declared.ledger.Outcome.{Outcome}
 use Rattle.ghes_replay.specs.declared.ledger.Outcome.TheVariants.{Nothing, Queued, NoSlot}
 use Rattle.ghes_replay.specs.declared.ledger.AckState.TheVariants.{NotAsked}
@@ -7,10 +7,19 @@ use Rattle.ghes_replay.specs.declared.ledger.Call.{Call}
 use Rattle.ghes_replay.specs.declared.pending.Packet.{Packet}
 use Rattle.ghes_replay.specs.Blocks.{Raised}
 
--- The outcome, by the block that stands, what is pending and the number of that block: the first row that holds.
-abbrev pub outcome_of : Option (List ℕ) → List Packet → ℕ → Outcome
-outcome_of None pending number = Nothing
-outcome_of (Some block) pending number = if nat_le 16 (length pending) then NoSlot else Queued number
+-- Each slot is taken.
+abbrev pub is_full : List Packet → Bool
+is_full pending = nat_le 16 (length pending)
+
+-- The outcome, by the block that stands, whether each slot is taken, and the number of that block.
+abbrev pub outcome_of : Option (List ℕ) → Bool → ℕ → Outcome
+outcome_of None full number = Nothing
+outcome_of (Some block) true number = NoSlot
+outcome_of (Some block) false number = Queued number
+
+-- The block that stands: the first that was raised and not acknowledged.
+abbrev pub block_of : Raised → Option (List ℕ)
+block_of blocks = slice_get blocks.made blocks.acknowledged
 
 -- Only Queued acknowledges the block that stood.
 abbrev pub blocks_after : Outcome → Raised → Raised

@@ -1,5 +1,5 @@
 -- What executing a line does to the state of a replay. The laws of `Lawful` are proved of it, and know nothing of it.
-use Rattle.std.specs.Prelude.{ℕ, ◌+◌, List, [], ◌∷◌, ◌++◌, map, length, nat_le, slice_get, if◌then◌else◌, Option, Some, None}
+use Rattle.std.specs.Prelude.{ℕ, ◌+◌, List, [], ◌∷◌, ◌++◌, map, length, Bool, Option, Some, None}
 use Rattle.ghes_replay.specs.declared.execute.Replay.{Replay}
 use Rattle.ghes_replay.specs.declared.line.What.{What}
 use Rattle.ghes_replay.specs.declared.line.What.TheVariants.{Raise, Nmi, Work}
@@ -10,7 +10,7 @@ use Rattle.ghes_replay.specs.declared.ledger.Call.{Call}
 use Rattle.ghes_replay.specs.declared.ledger.Taken.{Taken}
 use Rattle.ghes_replay.specs.declared.pending.Packet.{Packet}
 use Rattle.ghes_replay.specs.Blocks.{Raised}
-use Rattle.ghes_replay.specs.Call.{outcome_of, blocks_after, pending_after, call_at}
+use Rattle.ghes_replay.specs.Call.{block_of, is_full, outcome_of, blocks_after, pending_after, call_at}
 use Rattle.ghes_replay.specs.Kept.{Kept, delivery_of, report_of_packet, mark_of}
 use Rattle.ghes_replay.specs.History.{Act, Step}
 
@@ -28,19 +28,23 @@ drained packets kept = record kept {
 
 -- the outcome of a call now
 abbrev pub outcome_now : Replay → Outcome
-outcome_now replay = outcome_of (slice_get replay.blocks.made replay.blocks.acknowledged) replay.pending (replay.blocks.acknowledged + 1)
+outcome_now replay = outcome_of (block_of replay.blocks) (is_full replay.pending) (replay.blocks.acknowledged + 1)
 
 -- after firmware raised a block
 abbrev pub raised : List ℕ → Replay → Replay
 raised block replay = record replay { blocks = record replay.blocks { made = replay.blocks.made ++ block ∷ [] } }
 
+-- after a call on a source, by the block that stood and whether each slot was taken
+abbrev pub called_by : Option (List ℕ) → Bool → ℕ → Replay → Replay
+called_by standing full source replay = record {
+  blocks = blocks_after (outcome_of standing full (replay.blocks.acknowledged + 1)) replay.blocks;
+  pending = pending_after source (outcome_of standing full (replay.blocks.acknowledged + 1)) standing replay.pending;
+  ledger = record replay.ledger { calls = replay.ledger.calls ++ call_at source (outcome_of standing full (replay.blocks.acknowledged + 1)) ∷ [] }
+}
+
 -- after a call on a source
 abbrev pub called : ℕ → Replay → Replay
-called source replay = record {
-  blocks = blocks_after (outcome_now replay) replay.blocks;
-  pending = pending_after source (outcome_now replay) (slice_get replay.blocks.made replay.blocks.acknowledged) replay.pending;
-  ledger = record replay.ledger { calls = replay.ledger.calls ++ call_at source (outcome_now replay) ∷ [] }
-}
+called source replay = called_by (block_of replay.blocks) (is_full replay.pending) source replay
 
 -- after all that was pending was delivered
 abbrev pub worked : Replay → Replay

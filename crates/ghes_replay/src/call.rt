@@ -1,5 +1,5 @@
-ghost use Rattle.std.specs.Prelude.{◌≡◌, ◌<◌, ◌+◌, ◌^◌, length, IfOk, OnOk, slice_get};
-ghost use Rattle.ghes_replay.specs.Call.{outcome_of, blocks_after, pending_after};
+ghost use Rattle.std.specs.Prelude.{◌≡◌, ◌<◌, ◌+◌, ◌^◌, length, IfOk};
+ghost use Rattle.ghes_replay.specs.Call.{block_of, is_full, outcome_of, blocks_after, pending_after};
 
 use crate::blocks::Blocks;
 use crate::pending::Pending;
@@ -20,10 +20,10 @@ pub(crate) fn call(
 ) -> Result<Outcome, AllocError>
     requires { length blocks.old.made < 2 ^ 32 }
     ensures outcome { IfOk result (λ outcome. outcome
-        ≡ outcome_of (slice_get blocks.old.made blocks.old.acknowledged) pending.old (blocks.old.acknowledged + 1)) }
+        ≡ outcome_of (block_of blocks.old) (is_full pending.old) (blocks.old.acknowledged + 1)) }
     ensures blocks { IfOk result (λ outcome. blocks.new ≡ blocks_after outcome blocks.old) }
     ensures pending { IfOk result (λ outcome. pending.new
-        ≡ pending_after source outcome (slice_get blocks.old.made blocks.old.acknowledged) pending.old) }
+        ≡ pending_after source outcome (block_of blocks.old) pending.old) }
 {
     let number = blocks.acknowledged();
     let Some(block) = blocks.standing() else {
