@@ -5,4 +5,5 @@ pub mod History
 pub mod Kept
 pub mod Lawful
 pub mod Queue
+pub mod Script
 pub mod Text

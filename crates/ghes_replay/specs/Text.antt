@@ -11,6 +11,8 @@ use Rattle.ghes_replay.specs.declared.ledger.Taken.{Taken}
 use Rattle.ghes_replay.specs.declared.ledger.Taken.TheVariants.{Delivered}
 use Rattle.ghes_replay.specs.History.{Step, acts_of}
 use Rattle.ghes_replay.specs.Kept.{Kept}
+use Rattle.ghes_replay.specs.Lawful.{packet_of, of_source}
+use Rattle.ghes_replay.specs.Queue.{queue, acknowledged}
 
 -- what a call answered (own choice)
 abbrev pub outcome_text : Outcome → List ℕ
@@ -56,3 +58,32 @@ step_text id step = flat_map (call_text id) step.calls ++ flat_map (taken_text i
 abbrev pub history_text : ℕ → List Step → List ℕ
 history_text id [] = []
 history_text id (step ∷ before) = history_text id before ++ step_text id step
+
+-- a call found no slot
+abbrev pub has_no_slot : Call → Bool
+has_no_slot call = found_none call.reply.outcome where
+  found_none : Outcome → Bool
+  found_none Nothing = false
+  found_none (Queued number) = false
+  found_none NoSlot = true
+
+-- the summary's line of the source: how many blocks it raised, had acknowledged and had delivered
+unfoldable pub source_line : ℕ → ℕ → ℕ → ℕ → List ℕ
+source_line id raised acknowledged delivered =
+  codes "summary\nsource " ++ decimal id ++ codes ": raised " ++ decimal raised ++ codes ", acknowledged " ++ decimal acknowledged
+  ++ codes ", delivered " ++ decimal delivered ++ codes ", duplicate 0, dropped 0, panic 0\n"
+
+-- the summary's last line: how many reports there are, and how many calls found no slot
+unfoldable pub totals_line : ℕ → ℕ → List ℕ
+totals_line reports no_slot =
+  codes "reports " ++ decimal reports ++ codes ", repeats 0, no slot " ++ decimal no_slot ++ codes ", fault 0\n"
+
+-- the summary of a replay
+abbrev pub summary_text : ℕ → List Line → Kept → List ℕ
+summary_text id lines kept =
+  source_line id (length (queue 0 (acts_of lines))) (acknowledged 0 kept.calls) (length (of_source 0 (map packet_of kept.taken)))
+  ++ totals_line (length kept.reports) (count_by has_no_slot kept.calls)
+
+-- The text of a replay: the lines of its history, and the summary.
+abbrev pub replay_text : ℕ → List Line → Kept → List Step → List ℕ
+replay_text id lines kept history = history_text id history ++ summary_text id lines kept

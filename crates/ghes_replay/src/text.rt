@@ -1,9 +1,9 @@
-ghost use Rattle.std.specs.Prelude.{◌≡◌, ◌++◌, OnOk, IfOk};
+ghost use Rattle.std.specs.Prelude.{◌≡◌, ◌++◌, OnOk, IfOk, length, count_by};
 ghost use Rattle.std.specs.String.{string_bytes};
 ghost use Rattle.std.specs.List.{flat_map};
-ghost use Rattle.ghes_replay.specs.Text.{outcome_text, call_text, severity_code, severity_word, report_lines, report_text, taken_text};
+ghost use Rattle.ghes_replay.specs.Text.{outcome_text, call_text, severity_code, severity_word, report_lines, report_text, taken_text, has_no_slot, source_line, totals_line};
 
-use crate::{Call, Outcome, Taken};
+use crate::{Call, Ledger, Outcome, Taken};
 use byteorder::{ByteOrder, LittleEndian};
 use std::alloc::{AllocError, Global};
 use std::fmt;
@@ -123,4 +123,53 @@ pub(crate) fn step_text(
 {
     calls_text(alloc, into, id, calls)?;
     taken_text(alloc, into, id, taken)
+}
+
+// How many of the calls found no slot.
+fn no_slots(calls: &[Call]) -> usize
+    ensures { result ≡ count_by has_no_slot calls.now }
+{
+    calls
+        .iter()
+        .filter(|call| matches!(call.reply.outcome, Outcome::NoSlot))
+        .count()
+}
+
+// The summary's line of the source.
+fn source_line(
+    alloc: Global,
+    id: u16,
+    raised: usize,
+    acknowledged: u32,
+    delivered: usize,
+) -> Result<String, AllocError>
+    ensures { IfOk result (λ line. string_bytes line ≡ source_line id raised acknowledged delivered) }
+{
+    format!(in alloc; "summary\nsource {id}: raised {raised}, acknowledged {acknowledged}, delivered {delivered}, duplicate 0, dropped 0, panic 0\n")
+}
+
+// The summary's last line.
+fn totals_line(alloc: Global, reports: usize, no_slot: usize) -> Result<String, AllocError>
+    ensures { IfOk result (λ line. string_bytes line ≡ totals_line reports no_slot) }
+{
+    format!(in alloc; "reports {reports}, repeats 0, no slot {no_slot}, fault 0\n")
+}
+
+/// Appends the summary of a source with so many raised and acknowledged blocks.
+pub(crate) fn summary_text(
+    alloc: Global,
+    into: &mut Vec<u8>,
+    id: u16,
+    raised: usize,
+    acknowledged: u32,
+    ledger: &Ledger,
+) -> Result<(), AllocError>
+    ensures { OnOk result (into.new.items ≡ into.old.items
+        ++ (source_line id raised acknowledged (length ledger.now.taken)
+        ++ totals_line (length ledger.now.reports) (count_by has_no_slot ledger.now.calls))) }
+{
+    let source = source_line(alloc, id, raised, acknowledged, ledger.taken.len())?;
+    into.extend_from_slice(source.as_bytes())?;
+    let totals = totals_line(alloc, ledger.reports.len(), no_slots(&ledger.calls))?;
+    into.extend_from_slice(totals.as_bytes())
 }

@@ -1,0 +1,73 @@
+-- The script of one source: its lines, what each says, and which line is refused first (own choice).
+use Rattle.std.specs.Prelude.{◌≡◌, ◌≢◌, ◌<◌, ℕ, ◌+◌, Bool, not, ◌&&◌, ◌==◌, nat_le, IsTrue, List, [], ◌∷◌, ◌++◌, length, drop, codes, ◌⊎◌, Result, Ok, true}
+use Rattle.std.specs.List.{AllByRecursion}
+use Rattle.std.specs.Fmt.{decimal}
+use Rattle.byteorder.specs.Endian.{little_number}
+use Rattle.hex.specs.Hex.{decode_of}
+use Rattle.ghes_replay.specs.declared.line.Line.{Line}
+use Rattle.ghes_replay.specs.declared.line.What.{What}
+use Rattle.ghes_replay.specs.declared.line.What.TheVariants.{Raise, Nmi, Work}
+
+-- the number of four bytes at an offset
+abbrev pub word_at : ℕ → List ℕ → ℕ
+word_at offset bytes = little_number 4 (drop offset bytes)
+
+-- A block that a script may raise so far: a header of 20 bytes alone, with a block status, without raw data
+-- and data entries, and not fatal (ACPI 6.5, 18.3.2.7.1; the form: own choice).
+abbrev pub is_bare : List ℕ → Bool
+is_bare block =
+  (length block == 20) && not (word_at 0 block == 0) && (word_at 8 block == 0) && (word_at 12 block == 0)
+  && nat_le (word_at 16 block) 3 && not (word_at 16 block == 1)
+
+-- the line `nmi`, and the front of a line `raise`, of the source with this id
+abbrev pub nmi_line : ℕ → List ℕ
+nmi_line id = codes "nmi " ++ decimal id
+
+abbrev pub raise_front : ℕ → List ℕ
+raise_front id = codes "raise " ++ decimal id ++ codes " "
+
+-- a line `raise` with these digits, which spell the block
+pub record IsRaise (id : ℕ) (block digits text : List ℕ) : Type 0 where
+  pub spelled : text ≡ raise_front id ++ digits
+  pub decoded : decode_of digits ≡ Ok block
+  pub bare : is_bare block ≡ true
+
+-- A text without its line feed asks for this. The one source has this id, and the position 0.
+abbrev pub IsLineOf : ℕ → What → List ℕ → Type 0
+IsLineOf id (Raise source block) text = (source ≡ 0) × (digits : List ℕ) × IsRaise id block digits text
+IsLineOf id (Nmi source) text = (source ≡ 0) × (text ≡ nmi_line id)
+IsLineOf id Work text = text ≡ codes "work"
+
+-- what a line asks for is of the source at position 0
+abbrev pub IsOfFirst : What → Type 0
+IsOfFirst (Raise source block) = source ≡ 0
+IsOfFirst (Nmi source) = source ≡ 0
+IsOfFirst Work = Unit {0}
+
+-- The bytes begin with a line of this text, and the rest follows. A line ends with a line feed, which the last may lack.
+pub record IsFirstLine (bytes text rest : List ℕ) : Type 0 where
+  pub one_line : AllByRecursion (λ byte. byte ≢ 10) text
+  pub cut : (bytes ≡ text ++ 10 ∷ rest) ⊎ ((bytes ≡ text) × (rest ≡ []) × (0 < length text))
+
+-- From this line number on, the bytes are these lines.
+abbrev pub SpellsFrom : ℕ → ℕ → List ℕ → List Line → Type 0
+SpellsFrom id number bytes [] = bytes ≡ []
+SpellsFrom id number bytes (line ∷ lines) =
+  (text : List ℕ) × (rest : List ℕ) × IsFirstLine bytes text rest × (line.number ≡ number) × IsLineOf id line.what text
+  × SpellsFrom id (number + 1) rest lines
+
+-- From this line number on, the bytes are these lines, and then, at the number `at`, a line that asks for nothing.
+abbrev pub RefusesFrom : ℕ → ℕ → List ℕ → List Line → ℕ → Type 0
+RefusesFrom id number bytes [] at =
+  (text : List ℕ) × (rest : List ℕ) × IsFirstLine bytes text rest × ((what : What) → IsLineOf id what text → ⊥) × (at ≡ number)
+RefusesFrom id number bytes (line ∷ lines) at =
+  (text : List ℕ) × (rest : List ℕ) × IsFirstLine bytes text rest × (line.number ≡ number) × IsLineOf id line.what text
+  × RefusesFrom id (number + 1) rest lines at
+
+-- the bytes are a script of these lines, numbered from 1 on
+abbrev pub IsScript : ℕ → List ℕ → List Line → Type 0
+IsScript id bytes lines = SpellsFrom id 1 bytes lines
+
+-- the first line of the bytes that asks for nothing has this number
+abbrev pub IsRefusedAt : ℕ → List ℕ → ℕ → Type 0
+IsRefusedAt id bytes at = (lines : List Line) × RefusesFrom id 1 bytes lines at
