@@ -1,7 +1,8 @@
 -- The ledger at the end of a replay is lawful.
-use Rattle.std.proofs.Common.{◌≡◌, ℕ, ◌+◌, Bool, true, false, cond, eqb, List, [], ◌∷◌, ◌++◌, map, length, take, refl, sym, ap, subst, ◌∙◌, append-nil}
+use Rattle.std.proofs.Common.{◌≡◌, ℕ, ◌+◌, Bool, true, false, cond, eqb, List, [], ◌∷◌, ◌++◌, map, length, take, refl, sym, ap, subst, ◌∙◌, append-nil, count_by}
 use Rattle.std.specs.List.{range_with_len, flat_map}
 use Rattle.std.proofs.lemmas.Bool.{eqb-true}
+use Rattle.std.proofs.lemmas.List.{length-map}
 use Rattle.ghes_replay.specs.declared.execute.Replay.{Replay}
 use Rattle.ghes_replay.specs.declared.line.Line.{Line}
 use Rattle.ghes_replay.specs.declared.ledger.Call.{Call}
@@ -9,6 +10,7 @@ use Rattle.ghes_replay.specs.declared.pending.Packet.{Packet}
 use Rattle.ghes_replay.specs.History.{Act, Step, acts_of, acts_in, Tells}
 use Rattle.ghes_replay.specs.Queue.{queue, numbers_of, acknowledged}
 use Rattle.ghes_replay.specs.Lawful.{packet_of, name_of, of_source, packets_from, taken_names, queued_names, IsLawful}
+use Rattle.ghes_replay.specs.Text.{has_no_slot, source_line, totals_line, summary_text}
 use Rattle.ghes_replay.proofs.Facts.{cond-append, cond_nil, length-range}
 use Rattle.ghes_replay.proofs.Follows.{IsKept, IsTold, Follows}
 
@@ -36,11 +38,15 @@ fates_of false s n made numbers blocks is count all =
     let size : length numbers ≡ 0 = ap length count in
     ap (λ m. packets_from s 1 (take m [])) (sym size) ∙ ap (λ xs. packets_from s 1 (take (length numbers) xs)) (sym all)
 
+-- what was taken, where nothing is pending
+packets_at_end : (state : Replay) {history : List Step} → state.pending ≡ [] → Follows history state → map packet_of state.ledger.taken ≡ packets_from 0 1 (take state.blocks.acknowledged state.blocks.made)
+packets_at_end state none f =
+    sym (append-nil _) ∙ ap (λ xs. map packet_of state.ledger.taken ++ xs) (sym none) ∙ f.kept.packets
+
 -- a history of all lines and the end, whose state has nothing pending
 pub lawful_at_end : (lines : List Line) (history : List Step) (state : Replay) → acts_in history ≡ acts_of lines → state.pending ≡ [] → Follows history state → IsLawful lines state.ledger history
 lawful_at_end lines history state all none f =
-    let packets : map packet_of state.ledger.taken ≡ packets_from 0 1 (take state.blocks.acknowledged state.blocks.made) =
-        sym (append-nil _) ∙ ap (λ xs. map packet_of state.ledger.taken ++ xs) (sym none) ∙ f.kept.packets in
+    let packets = packets_at_end state none f in
     record {
       beside = record { acts = all; calls = f.told.calls; taken = f.told.taken; marks = f.told.marks };
       calls = f.steps.calls;
@@ -57,3 +63,16 @@ lawful_at_end lines history state all none f =
       reports = f.kept.reports;
       report_numbers = f.kept.report_numbers;
     }
+
+-- the numbers of the summary are those of the state
+pub summary_is : (id : ℕ) (lines : List Line) (history : List Step) (state : Replay) → acts_in history ≡ acts_of lines → state.pending ≡ [] → Follows history state → source_line id (length state.blocks.made) state.blocks.acknowledged (length state.ledger.taken) ++ totals_line (length state.ledger.reports) (count_by has_no_slot state.ledger.calls) ≡ summary_text id lines state.ledger
+summary_is id lines history state all none f =
+    let packets = packets_at_end state none f in
+    let raised : length state.blocks.made ≡ length (queue 0 (acts_of lines)) = sym (ap length (ap (queue 0) (sym all) ∙ f.told.queue 0)) in
+    let taken_note : state.blocks.acknowledged ≡ acknowledged 0 state.ledger.calls = sym (ap length (f.kept.numbers 0) ∙ length-range 1 state.blocks.acknowledged) in
+    let of_one : of_source 0 (map packet_of state.ledger.taken) ≡ map packet_of state.ledger.taken = ap (of_source 0) packets ∙ of_source-packets 0 1 _ ∙ sym packets in
+    let delivered : length state.ledger.taken ≡ length (of_source 0 (map packet_of state.ledger.taken)) = sym (ap length of_one ∙ length-map state.ledger.taken packet_of) in
+    ap (λ xs. xs ++ totals_line (length state.ledger.reports) (count_by has_no_slot state.ledger.calls)) (
+      ap (λ n. source_line id n state.blocks.acknowledged (length state.ledger.taken)) raised
+      ∙ ap (λ n. source_line id (length (queue 0 (acts_of lines))) n (length state.ledger.taken)) taken_note
+      ∙ ap (λ n. source_line id (length (queue 0 (acts_of lines))) (acknowledged 0 state.ledger.calls) n) delivered)

@@ -1,7 +1,9 @@
 pub mod Facts
+pub mod Finishing
 pub mod Follows
 pub mod FollowsStep
 pub mod KeptSteps
 pub mod LawfulEnd
 pub mod LawfulSteps
+pub mod Running
 pub mod ToldSteps

@@ -1,4 +1,4 @@
-ghost use Rattle.std.specs.Prelude.{◌≡◌, ◌+◌, ◌∷◌, ◌++◌, length, OnOk, OnErr, [], map};
+ghost use Rattle.std.specs.Prelude.{◌≡◌, ◌≤◌, ◌+◌, ◌∷◌, ◌++◌, length, OnOk, OnErr, [], drop};
 
 use crate::Packet;
 use apei_base::Bytes;
@@ -154,5 +154,21 @@ impl Ledger {
             taken: self.taken.len() as u64,
         })?;
         Ok(())
+    }
+
+    /// The calls from this one on, counted from 0.
+    pub(crate) fn calls_from(&self, start: usize) -> &[Call]
+        requires { start ≤ length self.now.calls }
+        ensures { result.now ≡ drop start self.now.calls }
+    {
+        self.calls.split_at(start).1
+    }
+
+    /// The taken blocks from this one on, counted from 0.
+    pub(crate) fn taken_from(&self, start: usize) -> &[Taken]
+        requires { start ≤ length self.now.taken }
+        ensures { result.now ≡ drop start self.now.taken }
+    {
+        self.taken.split_at(start).1
     }
 }

@@ -7,6 +7,7 @@ mod execute;
 mod ledger;
 mod line;
 mod pending;
+mod script_run;
 mod text;
 
 pub use ledger::{AckState, Call, Ledger, Mark, Outcome, Reply, Report, Reported, Taken};

@@ -1,0 +1,82 @@
+ghost use Rattle.std.specs.Prelude.{◌≡◌, ◌<◌, ◌^◌, ◌+◌, ◌++◌, List, length, OnOk, IfOk};
+ghost use Rattle.std.specs.List.{AllByRecursion};
+ghost use Rattle.ghes_replay.specs.Execute.{executed, step_of};
+ghost use Rattle.ghes_replay.specs.History.{Step, act_of, script_end};
+ghost use Rattle.ghes_replay.specs.Lawful.{IsLawful};
+ghost use Rattle.ghes_replay.specs.Script.{IsOfFirst};
+ghost use Rattle.ghes_replay.specs.Text.{step_text, replay_text};
+
+use crate::execute::Replay;
+use crate::text::{step_text, summary_text};
+use crate::{Ledger, Line};
+use std::alloc::{AllocError, Global};
+
+/// A script that was replayed to its end.
+#[derive(Debug, Drop)]
+pub(crate) struct Replayed {
+    pub ledger: Ledger,
+    /// The whole output.
+    pub text: Vec<u8>,
+}
+
+// Executes a line, and appends its text.
+fn run_line(
+    alloc: Global,
+    id: u16,
+    replay: &mut Replay,
+    text: &mut Vec<u8>,
+    line: &Line,
+) -> Result<(), AllocError>
+    requires { length replay.old.blocks.made < 2 ^ 32 }
+    ensures replay { OnOk result (replay.new ≡ executed (act_of line.now) replay.old) }
+    ensures text { OnOk result (text.new.items ≡ text.old.items ++ step_text id (step_of (act_of line.now) replay.old)) }
+{
+    let calls = replay.ledger.calls.len();
+    let taken = replay.ledger.taken.len();
+    replay.execute(alloc, line)?;
+    let ledger = &replay.ledger;
+    step_text(alloc, text, id, ledger.calls_from(calls), ledger.taken_from(taken))
+}
+
+// Executes the end of the script, and appends its text.
+fn run_end(
+    alloc: Global,
+    id: u16,
+    replay: &mut Replay,
+    text: &mut Vec<u8>,
+) -> Result<(), AllocError>
+    ensures replay { OnOk result (replay.new ≡ executed script_end replay.old) }
+    ensures text { OnOk result (text.new.items ≡ text.old.items ++ step_text id (step_of script_end replay.old)) }
+{
+    let calls = replay.ledger.calls.len();
+    let taken = replay.ledger.taken.len();
+    replay.finish(alloc)?;
+    let ledger = &replay.ledger;
+    step_text(alloc, text, id, ledger.calls_from(calls), ledger.taken_from(taken))
+}
+
+/// Executes the lines of a script and then its end. All lines are of the one source, which has this id.
+pub(crate) fn run_script(
+    alloc: Global,
+    id: u16,
+    lines: &[Line],
+) -> Result<Replayed, AllocError>
+    requires few { length lines.now < 2 ^ 32 }
+    requires first { AllByRecursion (λ line. IsOfFirst line.what) lines.now }
+    ensures { IfOk result (λ replayed. (history : List Step) × IsLawful lines.now replayed.ledger history
+        × (replayed.text.items ≡ replay_text id lines.now replayed.ledger history)) }
+{
+    let mut replay = Replay::new(alloc);
+    let mut text = Vec::new(alloc);
+    for line in lines {
+        run_line(alloc, id, &mut replay, &mut text, line)?;
+    }
+    run_end(alloc, id, &mut replay, &mut text)?;
+    let raised = replay.blocks.made();
+    let acknowledged = replay.blocks.acknowledged();
+    summary_text(alloc, &mut text, id, raised, acknowledged, &replay.ledger)?;
+    Ok(Replayed {
+        ledger: replay.ledger,
+        text,
+    })
+}
