@@ -5,5 +5,7 @@ pub mod FollowsStep
 pub mod KeptSteps
 pub mod LawfulEnd
 pub mod LawfulSteps
+pub mod LineLemmas
 pub mod Running
+pub mod Scanning
 pub mod ToldSteps

@@ -5,5 +5,7 @@ pub mod History
 pub mod Kept
 pub mod Lawful
 pub mod Queue
+pub mod Reading
 pub mod Script
+pub mod Spelling
 pub mod Text

@@ -1,30 +1,11 @@
 -- The script of one source: its lines, what each says, and which line is refused first (own choice).
 use Rattle.std.specs.Prelude.{◌≡◌, ◌≢◌, ◌<◌, ℕ, ◌+◌, Bool, not, ◌&&◌, ◌==◌, nat_le, IsTrue, List, [], ◌∷◌, ◌++◌, length, drop, codes, ◌⊎◌, Result, Ok, true}
 use Rattle.std.specs.List.{AllByRecursion}
-use Rattle.std.specs.Fmt.{decimal}
-use Rattle.byteorder.specs.Endian.{little_number}
 use Rattle.hex.specs.Hex.{decode_of}
+use Rattle.ghes_replay.specs.Spelling.{is_bare, nmi_line, raise_front}
 use Rattle.ghes_replay.specs.declared.line.Line.{Line}
 use Rattle.ghes_replay.specs.declared.line.What.{What}
 use Rattle.ghes_replay.specs.declared.line.What.TheVariants.{Raise, Nmi, Work}
-
--- the number of four bytes at an offset
-abbrev pub word_at : ℕ → List ℕ → ℕ
-word_at offset bytes = little_number 4 (drop offset bytes)
-
--- A block that a script may raise so far: a header of 20 bytes alone, with a block status, without raw data
--- and data entries, and not fatal (ACPI 6.5, 18.3.2.7.1; the form: own choice).
-abbrev pub is_bare : List ℕ → Bool
-is_bare block =
-  (length block == 20) && not (word_at 0 block == 0) && (word_at 8 block == 0) && (word_at 12 block == 0)
-  && nat_le (word_at 16 block) 3 && not (word_at 16 block == 1)
-
--- the line `nmi`, and the front of a line `raise`, of the source with this id
-abbrev pub nmi_line : ℕ → List ℕ
-nmi_line id = codes "nmi " ++ decimal id
-
-abbrev pub raise_front : ℕ → List ℕ
-raise_front id = codes "raise " ++ decimal id ++ codes " "
 
 -- a line `raise` with these digits, which spell the block
 pub record IsRaise (id : ℕ) (block digits text : List ℕ) : Type 0 where

@@ -4,9 +4,11 @@
 mod blocks;
 mod call;
 mod execute;
+mod forms;
 mod ledger;
 mod line;
 mod pending;
+mod script;
 mod script_run;
 mod text;
 
