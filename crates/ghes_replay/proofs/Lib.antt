@@ -6,6 +6,11 @@ pub mod KeptSteps
 pub mod LawfulEnd
 pub mod LawfulSteps
 pub mod LineLemmas
+pub mod LoadLemmas
+pub mod OneReading
+pub mod PutLemmas
+pub mod RunLemmas
 pub mod Running
 pub mod Scanning
 pub mod ToldSteps
+pub mod WordLemmas

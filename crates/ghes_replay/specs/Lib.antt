@@ -6,6 +6,9 @@ pub mod Kept
 pub mod Lawful
 pub mod Queue
 pub mod Reading
+pub mod Refusal
+pub mod Run
 pub mod Script
 pub mod Spelling
 pub mod Text
+pub mod Views

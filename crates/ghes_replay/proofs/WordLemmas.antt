@@ -1,0 +1,16 @@
+-- A command line of four words.
+use Rattle.std.proofs.Common.{◌≡◌, ◌<◌, ◌≤◌, ℕ, List, [], ◌∷◌, map, length, get_or, refl, sym, ap, ◌∙◌, arith, String, Global}
+use Rattle.std.specs.String.{string_bytes}
+
+-- four elements by their places
+pub four_items : {A : Type 0} (items : List A) (a b c d : A) → 4 ≤ length items → length items < 5 → a ≡ get_or items 0 a → b ≡ get_or items 1 b → c ≡ get_or items 2 c → d ≡ get_or items 3 d → items ≡ a ∷ b ∷ c ∷ d ∷ []
+four_items [] a b c d low high is_a is_b is_c is_d = absurd (omega arith)
+four_items (w ∷ []) a b c d low high is_a is_b is_c is_d = absurd (omega arith)
+four_items (w ∷ x ∷ []) a b c d low high is_a is_b is_c is_d = absurd (omega arith)
+four_items (w ∷ x ∷ y ∷ []) a b c d low high is_a is_b is_c is_d = absurd (omega arith)
+four_items (w ∷ x ∷ y ∷ z ∷ []) a b c d low high is_a is_b is_c is_d = cc
+four_items (w ∷ x ∷ y ∷ z ∷ v ∷ more) a b c d low high is_a is_b is_c is_d = absurd (omega arith)
+
+-- the bytes of four words
+pub four_words : (words : List (String Global)) (a b c d : String Global) (w x y z : List ℕ) → words ≡ a ∷ b ∷ c ∷ d ∷ [] → string_bytes a ≡ w → string_bytes b ≡ x → string_bytes c ≡ y → string_bytes d ≡ z → map (string_bytes {Z = Global}) words ≡ w ∷ x ∷ y ∷ z ∷ []
+four_words words a b c d w x y z all is_a is_b is_c is_d = ap (map (string_bytes {Z = Global})) all ∙ cc

@@ -1,0 +1,57 @@
+-- Refusals of a run: the status and the line of each (own choice).
+use Rattle.std.specs.Prelude.{ℕ, List, [], ◌++◌, codes, slice_get, unwrap_or}
+use Rattle.std.specs.Fmt.{decimal}
+use Rattle.apei_hest.specs.Text.{hest_error_text}
+use Rattle.ghes_outside.specs.declared.files.LoadError.{LoadError}
+use Rattle.ghes_outside.specs.declared.files.LoadError.TheVariants as loads
+use Rattle.ghes_replay.specs.declared.exit.InputFile.{InputFile}
+use Rattle.ghes_replay.specs.declared.exit.InputFile.TheVariants as files
+use Rattle.ghes_replay.specs.declared.exit.Refusal.{Refusal}
+use Rattle.ghes_replay.specs.declared.exit.Refusal.TheVariants as refusals
+
+-- the status that a refusal gives
+abbrev pub status_of : Refusal → ℕ
+status_of refusals.Usage = 2
+status_of (refusals.Hest error) = 3
+status_of (refusals.Script line) = 4
+status_of (refusals.Load file why) = 5
+status_of refusals.OutOfMemory = 7
+
+-- the word that names a file: the table is word 1 and the script word 3, counted from 0
+abbrev pub file_name : List (List ℕ) → InputFile → List ℕ
+file_name words files.Hest = unwrap_or (slice_get words 1) []
+file_name words files.Script = unwrap_or (slice_get words 3) []
+
+-- why a file was not loaded
+abbrev pub load_error_text : LoadError → List ℕ
+load_error_text loads.Failed = codes "1 failed"
+load_error_text loads.TooLong = codes "2 too long"
+load_error_text loads.OutOfMemory = codes "out of memory"
+
+-- the line for a command line that is none of the forms
+abbrev pub usage_line : List ℕ
+usage_line = codes "ghes: usage: replay HEST EINJ SCRIPT | check HEST EINJ | decode BLOCK | load N\n"
+
+-- the line for a file that was not loaded
+unfoldable pub load_line : List ℕ → List ℕ → List ℕ
+load_line name why = codes "ghes: read " ++ name ++ codes ": " ++ why ++ codes "\n"
+
+-- the line for a refused table
+unfoldable pub hest_line : List ℕ → List ℕ
+hest_line reason = codes "ghes: hest: " ++ reason ++ codes "\n"
+
+-- the line for a refused script: each line that is none is an unknown command so far
+unfoldable pub script_line : ℕ → List ℕ
+script_line line = codes "ghes: script: line " ++ decimal line ++ codes ": 1 command\n"
+
+-- the line for want of memory
+abbrev pub memory_line : List ℕ
+memory_line = codes "ghes: out of memory\n"
+
+-- the line of a refusal
+abbrev pub line_of : List (List ℕ) → Refusal → List ℕ
+line_of words refusals.Usage = usage_line
+line_of words (refusals.Load file why) = load_line (file_name words file) (load_error_text why)
+line_of words (refusals.Hest error) = hest_line (hest_error_text error)
+line_of words (refusals.Script line) = script_line line
+line_of words refusals.OutOfMemory = memory_line

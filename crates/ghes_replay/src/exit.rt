@@ -1,0 +1,122 @@
+ghost use Rattle.std.specs.Prelude.{◌≡◌, IfOk, map};
+ghost use Rattle.std.specs.String.{string_bytes};
+ghost use Rattle.apei_hest.specs.Text.{hest_error_text};
+ghost use Rattle.ghes_replay.specs.Refusal.{status_of, file_name, load_error_text, load_line, hest_line, script_line, line_of};
+
+use apei_hest::HestError;
+use ghes_outside::LoadError;
+use std::alloc::{AllocError, Global};
+
+/// The files that a replay reads.
+#[derive(Clone, Copy, Debug, PartialEq, Eq)]
+pub enum InputFile {
+    Hest,
+    Script,
+}
+
+/// Why a run is refused.
+#[derive(Clone, Copy, Debug, PartialEq, Eq)]
+pub enum Refusal {
+    /// The words are no form of the command line. Status 2.
+    Usage,
+    /// A file failed, or is longer than its limit. Status 5.
+    Load(InputFile, LoadError),
+    /// The table is refused. Status 3.
+    Hest(HestError),
+    /// The script's line of this number, from 1 on, is its first bad one. Status 4.
+    Script(u32),
+    /// Status 7.
+    OutOfMemory,
+}
+
+impl From<AllocError> for Refusal {
+    ghost use Rattle.ghes_replay.specs.declared.exit.Refusal.TheVariants.{OutOfMemory};
+
+    ghost from_gives = { λ _ e. e ≡ OutOfMemory };
+
+    fn from(_: AllocError) -> Refusal {
+        Refusal::OutOfMemory
+    }
+}
+
+/// The line for want of memory, which takes none.
+pub(crate) const MEMORY_LINE: &[u8] = b"ghes: out of memory\n";
+
+// The word that names a file.
+fn file_name(words: &[String], file: InputFile) -> &str
+    ensures { result.now ≡ file_name (map string_bytes words.now) file }
+{
+    let word = match file {
+        InputFile::Hest => words.get(1),
+        InputFile::Script => words.get(3),
+    };
+    match word {
+        Some(name) => name.as_str(),
+        None => "",
+    }
+}
+
+// Why a file was not loaded, in words.
+fn load_word(why: LoadError) -> &'static str
+    ensures { result.now ≡ load_error_text why }
+{
+    match why {
+        LoadError::Failed => "1 failed",
+        LoadError::TooLong => "2 too long",
+        LoadError::OutOfMemory => "out of memory",
+    }
+}
+
+// The line for a file that was not loaded.
+fn load_line(alloc: Global, name: &str, why: &str) -> Result<String, AllocError>
+    ensures { IfOk result (λ line. string_bytes line ≡ load_line name.now why.now) }
+{
+    format!(in alloc; "ghes: read {name}: {why}\n")
+}
+
+// The line for a refused table.
+fn hest_line(alloc: Global, error: HestError) -> Result<String, AllocError>
+    ensures { IfOk result (λ line. string_bytes line ≡ hest_line (hest_error_text error)) }
+{
+    format!(in alloc; "ghes: hest: {error}\n")
+}
+
+// The line for a refused script.
+fn script_line(alloc: Global, line: u32) -> Result<String, AllocError>
+    ensures { IfOk result (λ text. string_bytes text ≡ script_line line) }
+{
+    format!(in alloc; "ghes: script: line {line}: 1 command\n")
+}
+
+impl Refusal {
+    /// The status that the program ends with.
+    pub fn status(self) -> u8
+        ensures { result ≡ status_of self }
+    {
+        match self {
+            Refusal::Usage => 2,
+            Refusal::Hest(_) => 3,
+            Refusal::Script(_) => 4,
+            Refusal::Load(_, _) => 5,
+            Refusal::OutOfMemory => 7,
+        }
+    }
+
+    /// The line that is put, where `words` are the words of the command line.
+    pub fn line(self, alloc: Global, words: &[String]) -> Result<String, AllocError>
+        ensures { IfOk result (λ line. string_bytes line ≡ line_of (map string_bytes words.now) self) }
+    {
+        match self {
+            Refusal::Usage => String::from_str(
+                alloc,
+                "ghes: usage: replay HEST EINJ SCRIPT | check HEST EINJ | decode BLOCK | load N\n",
+            ),
+            Refusal::Load(file, why) => {
+                load_line(alloc, file_name(words, file), load_word(why))
+            },
+            Refusal::Hest(error) => hest_line(alloc, error),
+            Refusal::Script(line) => script_line(alloc, line),
+            Refusal::OutOfMemory => String::from_str(alloc, "ghes: out of memory\n"),
+        }
+    }
+}

@@ -1,0 +1,87 @@
+ghost use Rattle.std.specs.Prelude.{◌≡◌, ◌<◌, ◌^◌, ◌-◌, length};
+ghost use Rattle.ghes_replay.specs.Run.{files_seen, LoadsTable, LoadsScript, ReadsTable, ReadsLines, load_refusal};
+ghost use Rattle.ghes_replay.specs.Views.{lines_of};
+
+use crate::script::{ScriptError, read_script};
+use crate::{InputFile, Line, Refusal};
+use apei_hest::{Ghes, Hest, HestError, Source};
+use ghes_outside::{Files, LoadError};
+use std::alloc::Global;
+
+/// How many bytes a table may have.
+const TABLE_LIMIT: usize = 1048576;
+/// How many bytes a script may have.
+const SCRIPT_LIMIT: usize = 16777216;
+
+// The one source of the table that the bytes are.
+fn read_table(alloc: Global, bytes: &[u8]) -> Result<Ghes, Refusal>
+    ensures { ReadsTable bytes.now result }
+{
+    match Hest::read(alloc, bytes) {
+        Ok(hest) => match hest.sources() {
+            [Source::Ghes(ghes)] => Ok(*ghes),
+            _ => Err(Refusal::Hest(HestError::NotBuilt)),
+        },
+        Err(HestError::OutOfMemory) => Err(Refusal::OutOfMemory),
+        Err(error) => Err(Refusal::Hest(error)),
+    }
+}
+
+// The lines of the script that the bytes are.
+fn read_lines(alloc: Global, id: u16, bytes: &[u8]) -> Result<Vec<Line>, Refusal>
+    requires { length bytes.now < 2 ^ 32 - 1 }
+    ensures { ReadsLines id bytes.now (lines_of result) }
+{
+    match read_script(alloc, id, bytes) {
+        Ok(lines) => Ok(lines),
+        Err(ScriptError::Line(line)) => Err(Refusal::Script(line)),
+        Err(ScriptError::OutOfMemory) => Err(Refusal::OutOfMemory),
+    }
+}
+
+// The refusal for a file that was not loaded.
+fn load_refusal(file: InputFile, why: LoadError) -> Refusal
+    ensures { result ≡ load_refusal file why }
+{
+    match why {
+        LoadError::OutOfMemory => Refusal::OutOfMemory,
+        _ => Refusal::Load(file, why),
+    }
+}
+
+/// Loads the table and reads its one source.
+pub(crate) fn load_table<F: Files>(
+    alloc: Global,
+    files: &mut F,
+    name: &str,
+) -> Result<Ghes, Refusal>
+    ensures { LoadsTable
+        (files_seen (F.contents files.old) (F.failed files.old) (F.faults files.old))
+        (files_seen (F.contents files.new) (F.failed files.new) (F.faults files.new))
+        name.now result }
+{
+    let mut bytes = Vec::new(alloc);
+    match files.load(name, &mut bytes, TABLE_LIMIT) {
+        Ok(()) => read_table(alloc, &bytes),
+        Err(why) => Err(load_refusal(InputFile::Hest, why)),
+    }
+}
+
+/// Loads the script and reads its lines, where the one source has this id.
+pub(crate) fn load_script<F: Files>(
+    alloc: Global,
+    files: &mut F,
+    name: &str,
+    ghes: &Ghes,
+) -> Result<Vec<Line>, Refusal>
+    ensures { LoadsScript
+        (files_seen (F.contents files.old) (F.failed files.old) (F.faults files.old))
+        (files_seen (F.contents files.new) (F.failed files.new) (F.faults files.new))
+        name.now ghes.now (lines_of result) }
+{
+    let mut bytes = Vec::new(alloc);
+    match files.load(name, &mut bytes, SCRIPT_LIMIT) {
+        Ok(()) => read_lines(alloc, ghes.id, &bytes),
+        Err(why) => Err(load_refusal(InputFile::Script, why)),
+    }
+}

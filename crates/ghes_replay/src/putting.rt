@@ -1,0 +1,40 @@
+ghost use Rattle.std.specs.Prelude.{◌≡◌, ◌≤◌, OnOk, OnErr};
+ghost use Rattle.ghes_outside.specs.Outside.{Rose, Appends, AppendsFront};
+ghost use Rattle.ghes_replay.specs.Run.{sink_seen, WasPut};
+
+use crate::{Ledger, RunEnd};
+use ghes_outside::{PutFailed, Sink};
+
+/// How many bytes are put at once.
+const PIECE: usize = 4096;
+
+// Puts a text in pieces.
+fn put_all<K: Sink>(out: &mut K, text: &[u8]) -> Result<(), PutFailed>
+    ensures ok { OnOk result (Appends (K.written out.old) (K.written out.new) text.now) }
+    ensures err { OnErr result (AppendsFront (K.written out.old) (K.written out.new) text.now) }
+    ensures cause { OnErr result (Rose (K.faults out.old) (K.faults out.new)) }
+{
+    let mut rest = text;
+    while !rest.is_empty() {
+        let (piece, after) = rest.split_at(rest.len().min(PIECE));
+        out.put(piece)?;
+        rest = after;
+    }
+    Ok(())
+}
+
+/// Puts the whole text, and ends with this status, or with 6 where the output did not take it.
+pub(crate) fn end_with<K: Sink>(
+    out: &mut K,
+    text: &[u8],
+    status: u8,
+    ledger: Option<Ledger>,
+) -> RunEnd
+    ensures { WasPut (sink_seen (K.written out.old) (K.faults out.old)) (sink_seen (K.written out.new) (K.faults out.new))
+        text.now status ledger result.status result.ledger }
+{
+    match put_all(out, text) {
+        Ok(()) => RunEnd { status, ledger },
+        Err(PutFailed) => RunEnd { status: 6, ledger },
+    }
+}
