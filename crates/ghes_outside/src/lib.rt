@@ -2,7 +2,13 @@
 #![tactic(auto)]
 
 mod files;
+mod host_files;
+mod host_sink;
 mod sink;
+mod steps;
 
 pub use files::{Files, LoadError};
+pub use host_files::HostFiles;
+pub use host_sink::HostSink;
 pub use sink::{PutFailed, Sink};
+pub use steps::Steps;
