@@ -1,4 +1,5 @@
-ghost use Rattle.std.specs.Prelude.{◌≡◌, ◌≤◌, [], OnOk, OnErr, vec_len};
+ghost use Rattle.std.specs.Prelude.{◌≡◌, ◌≢◌, ◌≤◌, ◌<◌, ◌-◌, ◌^◌, [], IsErrOf, OnOk, OnErr, vec_len};
+ghost use Rattle.ghes_outside.specs.Outside.{Agrees, IsLonger};
 
 use crate::{Files, LoadError};
 use std::fs::File;
@@ -70,16 +71,29 @@ fn load_from<R: std::rt::Files>(
 }
 
 // std reads in long pieces, tries again where a signal interrupts, and ends at a read of no bytes.
+// Where a reader tells its bytes, `Ok` has all of them, and `TooLong` says that there are more than the limit.
 fn read_whole<F: Read + Drop>(file: F, into: &mut Vec<u8>, limit: usize) -> Result<(), LoadError>
+    requires { into.old.items ≡ [] }
+    ensures whole { limit < 2 ^ 64 - 1 → OnOk result (Agrees (F.remaining file) into.new.items) }
+    ensures too_long { IsErrOf result LoadError.TooLong → IsLonger (F.remaining file) limit }
     ensures within { OnOk result (vec_len into.new ≤ limit) }
     ensures err { OnErr result (into.new.items ≡ []) }
 {
     let most = (limit as u64).saturating_add(1);
-    let read = file.take(most).read_to_end(into);
-    if let Err(error) = read {
-        into.clear();
-        return Err(cause_of(&error));
+    match file.take(most).read_to_end(into) {
+        Ok(_) => keep_within(into, limit),
+        Err(error) => {
+            into.clear();
+            Err(cause_of(&error))
+        }
     }
+}
+
+// Keeps bytes up to the limit, and none where there are more.
+fn keep_within(into: &mut Vec<u8>, limit: usize) -> Result<(), LoadError>
+    ensures ok { OnOk result ((into.new.items ≡ into.old.items) × (vec_len into.new ≤ limit)) }
+    ensures err { OnErr result ((into.new.items ≡ []) × (limit < vec_len into.old)) }
+{
     if into.len() > limit {
         into.clear();
         return Err(LoadError::TooLong);
@@ -88,7 +102,9 @@ fn read_whole<F: Read + Drop>(file: F, into: &mut Vec<u8>, limit: usize) -> Resu
 }
 
 // An error with a number is the system's. One without is of std, and its want of memory is that of a `Vec`.
-fn cause_of(error: &Error) -> LoadError {
+fn cause_of(error: &Error) -> LoadError
+    ensures { result ≢ LoadError.TooLong }
+{
     if error.kind() == ErrorKind::OutOfMemory && error.raw_os_error().is_none() {
         LoadError::OutOfMemory
     } else {
