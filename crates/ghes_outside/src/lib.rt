@@ -17,3 +17,6 @@ pub use mem_files::MemFiles;
 pub use mem_sink::MemSink;
 pub use sink::{PutFailed, Sink};
 pub use steps::Steps;
+
+#[cfg(test)]
+mod tests;

@@ -4,7 +4,8 @@ use std::sync::ledger::{Blank, Book, Ledger, Share};
 /// How many steps were taken. It takes no bytes, and only `tick` changes the number.
 ///
 /// A function that promises a bound takes a `&mut Steps<L>` for any ledger `L`, and ticks where the work is done.
-/// A caller that counts nothing makes one of `Blank::new(1)` and names `std::marker::Brand` for the ledger.
+/// A caller that counts nothing writes a function over `L` that takes a `Blank` and makes the steps of it, and calls that
+/// with `Blank::new(1)` and `std::marker::Brand`, picking the ledger's name and parts from the blank in its proof.
 /// Source: own choice.
 #[derive(Drop)]
 pub struct Steps<L: Ledger> {
