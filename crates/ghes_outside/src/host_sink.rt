@@ -1,4 +1,9 @@
+ghost use Rattle.std.specs.Prelude.{OnOk};
+ghost use Rattle.std.specs.Io.KnownBytes.{Appends};
+
 use crate::{PutFailed, Sink};
+use std::io;
+use std::io::Write;
 
 /// The standard output of the process.
 ///
@@ -33,8 +38,7 @@ impl<R: Print> Sink for HostSink<R> {
     ///
     /// Source: own choice.
     fn put(&mut self, bytes: &[u8]) -> Result<(), PutFailed> {
-        // std keeps no bytes back, so there is nothing to flush.
-        match self.rt.write_all(bytes) {
+        match write_whole(&mut io::writer(&self.rt), bytes) {
             Ok(()) => Ok(()),
             Err(_) => {
                 self.faults = self.faults.saturating_add(1);
@@ -42,4 +46,12 @@ impl<R: Print> Sink for HostSink<R> {
             }
         }
     }
+}
+
+// Where a writer tells its bytes, `Ok` has put these behind those before.
+fn write_whole<W: Write>(writer: &mut W, bytes: &[u8]) -> io::Result<()>
+    ensures { OnOk result (Appends (W.contents writer.old) (W.contents writer.new) bytes.now) }
+{
+    writer.write_all(bytes)?;
+    writer.flush()
 }

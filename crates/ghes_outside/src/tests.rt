@@ -1,10 +1,12 @@
 ghost use Rattle.std.specs.Prelude.{◌≡◌, ◌<◌};
 
 use super::{Files, HostFiles, HostSink, LoadError, MemFiles, MemSink, PutFailed, Sink, Steps};
-use std::fs;
+use std::fmt::Display;
+use std::io::ErrorKind;
 use std::marker::Brand;
 use std::sync::ledger::{Blank, Ledger};
 use std::test::Fail;
+use std::{fs, io};
 
 #[test]
 fn a_file_in_memory_is_loaded_up_to_its_limit(rt: HostRuntime) -> Result<(), Fail> {
@@ -126,6 +128,30 @@ fn no_file_and_a_folder_are_failures(rt: HostRuntime) -> Result<(), Fail> {
 fn the_standard_output_takes_a_line(rt: HostRuntime) {
     let mut sink = HostSink::new(&rt);
     assert_eq!(rt; sink.put(b"one line\n"), Ok(()));
+}
+
+// An output whose device is full.
+#[derive(Drop)]
+struct Full;
+
+impl Print for Full {
+    fn print<D: Display + Drop>(&self, _value: D) -> io::Result<()> {
+        Err(io::Error::from(ErrorKind::StorageFull))
+    }
+
+    fn println<D: Display + Drop>(&self, _value: D) -> io::Result<()> {
+        Err(io::Error::from(ErrorKind::StorageFull))
+    }
+
+    fn write_all(&self, _bytes: &[u8]) -> io::Result<()> {
+        Err(io::Error::from(ErrorKind::StorageFull))
+    }
+}
+
+#[test]
+fn a_put_to_a_full_device_fails_in_that_call(rt: HostRuntime) {
+    let mut sink = HostSink::new(Full);
+    assert_eq!(rt; sink.put(b"one line\n"), Err(PutFailed));
 }
 
 // The ledger is picked at a call of a function whose result does not name it.
