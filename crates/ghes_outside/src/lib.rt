@@ -1,4 +1,11 @@
 //! Files and an output as traits, so that a caller's contract can speak of what they hold and of what failed.
+//!
+//! A program that reads whole files and puts out bytes is written over `Files` and `Sink`. Their contracts say what
+//! `Ok` gives, when each error comes, and that a failure raises a count, so that no caller can fail without a cause.
+//!
+//! - `MemFiles` and `MemSink` are in memory. They tell all that they hold, and fail at the calls that are planned.
+//! - `HostFiles` and `HostSink` are the machine's files and standard output. They tell their count of faults alone.
+//! - `Steps` counts steps for a bound that a contract promises, at no cost.
 #![tactic(auto)]
 
 mod files;
