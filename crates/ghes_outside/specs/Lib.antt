@@ -1,1 +1,6 @@
+pub mod Host
+pub mod Loads
+pub mod MemFiles
+pub mod MemSink
 pub mod Outside
+pub mod Plan
