@@ -1,3 +1,4 @@
+pub mod EndLemmas
 pub mod Facts
 pub mod Finishing
 pub mod Follows

@@ -46,7 +46,7 @@ no_line_at_end bytes text rest none first = by_cases first.cut where
 -- what is a script is not refused
 pub not_both : (id number : ℕ) (bytes : List ℕ) (lines others : List Line) (at : ℕ) → SpellsFrom id number bytes lines → RefusesFrom id number bytes others at → ⊥
 not_both id number bytes [] [] at spells (text, rest, first, nothing, here) = no_line_at_end bytes text rest spells first
-not_both id number bytes [] (other ∷ others) at spells (text, rest, first, more) = no_line_at_end bytes text rest spells first
+not_both id number bytes [] (other ∷ others) at spells (text, rest, first, numbered, asks, more) = no_line_at_end bytes text rest spells first
 not_both id number bytes (line ∷ lines) [] at (text, rest, first, numbered, asks, more) (text', rest', first', nothing, here) =
     let same = first_line_once bytes text text' rest rest' first first' in
     let P : List ℕ → Type 0 = λ t. IsLineOf id line.what t in
