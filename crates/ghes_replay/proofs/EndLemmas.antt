@@ -11,7 +11,9 @@ use Rattle.ghes_replay.specs.declared.exit.Refusal.TheVariants as refusals
 use Rattle.ghes_replay.specs.Kept.{Kept}
 use Rattle.ghes_replay.specs.Refusal.{status_of, line_of}
 use Rattle.ghes_replay.specs.Script.{IsScript, IsRefusedAt}
-use Rattle.ghes_replay.specs.Run.{FilesSeen, SinkSeen, IsReplay, IsLoaded, HasTable, TableCause, ScriptCause, Cause, WasPut, EndsBy, IsAccepted}
+use Rattle.ghes_replay.specs.Seen.{FilesSeen, SinkSeen, IsLoaded}
+use Rattle.ghes_replay.specs.Run.{IsReplay, Cause, WasPut, EndsBy, IsAccepted}
+use Rattle.ghes_replay.specs.Loading.{HasTable, TableCause, ScriptCause}
 use Rattle.ghes_replay.proofs.OneReading.{not_both}
 
 -- the words name two files alone

@@ -8,7 +8,8 @@ use Rattle.ghes_outside.specs.declared.files.LoadError.TheVariants as loads
 use Rattle.apei_hest.specs.declared.source.Ghes.{Ghes}
 use Rattle.ghes_replay.specs.declared.exit.InputFile.{InputFile}
 use Rattle.ghes_replay.specs.declared.exit.InputFile.TheVariants as files
-use Rattle.ghes_replay.specs.Run.{FilesSeen, AddsNames, Loads, LoadsTable, LoadsScript, load_refusal, table_limit, script_limit}
+use Rattle.ghes_replay.specs.Seen.{FilesSeen, AddsNames, Loads, table_limit, script_limit}
+use Rattle.ghes_replay.specs.Loading.{LoadsTable, LoadsScript, load_refusal}
 
 -- no new name
 pub adds_none : (told : Option (List (List ℕ))) → told ≡ option_map (λ old. old ++ []) told

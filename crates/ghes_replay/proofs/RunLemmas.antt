@@ -13,7 +13,9 @@ use Rattle.ghes_replay.specs.declared.exit.Refusal.{Refusal}
 use Rattle.ghes_replay.specs.declared.exit.Refusal.TheVariants as refusals
 use Rattle.ghes_replay.specs.Kept.{Kept}
 use Rattle.ghes_replay.specs.Script.{IsLineOf, IsOfFirst, SpellsFrom}
-use Rattle.ghes_replay.specs.Run.{FilesSeen, AddsNames, Loads, IsLoaded, HasTable, HasScript, ScriptCause, ReplayCause, LoadsTable, LoadsScript, RunsLines, Replays}
+use Rattle.ghes_replay.specs.Seen.{FilesSeen, AddsNames, Loads, IsLoaded}
+use Rattle.ghes_replay.specs.Loading.{HasTable, HasScript, ScriptCause, LoadsTable, LoadsScript}
+use Rattle.ghes_replay.specs.Run.{ReplayCause, RunsLines, Replays}
 use Rattle.ghes_replay.proofs.LoadLemmas.{loads_weaker, loads_both}
 
 -- the lines of a script are of the first source

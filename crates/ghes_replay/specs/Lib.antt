@@ -4,11 +4,13 @@ pub mod Execute
 pub mod History
 pub mod Kept
 pub mod Lawful
+pub mod Loading
 pub mod Queue
 pub mod Reading
 pub mod Refusal
 pub mod Run
 pub mod Script
+pub mod Seen
 pub mod Spelling
 pub mod Text
 pub mod Views

@@ -1,4 +1,4 @@
--- What a run of a replay promises: of the files, of its text and of each refusal.
+-- What a run of the program promises: its text, and the cause of each refusal.
 use Rattle.std.specs.Prelude.{◌≡◌, ◌≤◌, ◌<◌, ◌⊎◌, ℕ, ◌^◌, List, [], ◌∷◌, ◌++◌, map, length, codes, Bool, ◌||◌, ◌==◌, Option, Some, None, Result, Ok, Err, IfOk, IfErr, OnOk}
 use Rattle.std.specs.Option.{option_map}
 use Rattle.std.specs.List.{AllByRecursion}
@@ -19,59 +19,12 @@ use Rattle.ghes_replay.specs.Lawful.{IsLawful}
 use Rattle.ghes_replay.specs.Refusal.{status_of, line_of}
 use Rattle.ghes_replay.specs.Script.{IsScript, IsRefusedAt}
 use Rattle.ghes_replay.specs.Text.{replay_text}
-
--- what files tell: their contents by name, the names whose load failed, and how often a load failed
-pub record FilesSeen : Type 0 where
-  pub contents : List ℕ → Option (List ℕ)
-  pub failed : Option (List (List ℕ))
-  pub faults : ℕ
-
-abbrev pub files_seen : (List ℕ → Option (List ℕ)) → Option (List (List ℕ)) → ℕ → FilesSeen
-files_seen contents failed faults = record { contents = contents; failed = failed; faults = faults }
-
--- what an output tells: the bytes that it took, and how often a put failed
-pub record SinkSeen : Type 0 where
-  pub written : Option (List ℕ)
-  pub faults : ℕ
-
-abbrev pub sink_seen : Option (List ℕ) → ℕ → SinkSeen
-sink_seen written faults = record { written = written; faults = faults }
-
--- a table has at most 1 MiB, and a script at most 16 MiB
-abbrev pub table_limit : ℕ
-table_limit = 1048576
-
-abbrev pub script_limit : ℕ
-script_limit = 16777216
+use Rattle.ghes_replay.specs.Seen.{FilesSeen, SinkSeen, table_limit, script_limit, Loads}
+use Rattle.ghes_replay.specs.Loading.{HasTable, HasScript, TableCause, ScriptCause}
 
 -- the words are `replay HEST - SCRIPT`, with these names of the two files
 abbrev pub IsReplay : List (List ℕ) → List ℕ → List ℕ → Type 0
 IsReplay words hest script = words ≡ codes "replay" ∷ hest ∷ codes "-" ∷ script ∷ []
-
--- new failed names, behind the old ones
-abbrev pub AddsNames : FilesSeen → FilesSeen → List (List ℕ) → Type 0
-AddsNames before after names = after.failed ≡ option_map (λ old. old ++ names) before.failed
-
--- Files were loaded, whose names are all of a kind: their contents stay, and only failed loads are noted.
-pub record Loads (IsName : List ℕ → Type 0) (before after : FilesSeen) : Type 0 where
-  pub contents : (name : List ℕ) → after.contents name ≡ before.contents name
-  pub grows : before.faults ≤ after.faults
-  pub names : List (List ℕ)
-  pub added : AddsNames before after names
-  pub each : AllByRecursion IsName names
-
--- These bytes were loaded from a file: they are its contents, where these are told, and within the limit.
-pub record IsLoaded (seen : FilesSeen) (name : List ℕ) (limit : ℕ) (bytes : List ℕ) : Type 0 where
-  pub told : Agrees (seen.contents name) bytes
-  pub within : length bytes ≤ limit
-
--- a file has an accepted table with this source
-abbrev pub HasTable : FilesSeen → List ℕ → Ghes → Type 0
-HasTable seen name ghes = (bytes : List ℕ) × IsLoaded seen name table_limit bytes × (hest_of bytes ≡ Ok (sources.Ghes ghes ∷ []))
-
--- a file has a script of these lines for the source
-abbrev pub HasScript : FilesSeen → List ℕ → Ghes → List Line → Type 0
-HasScript seen name ghes lines = (bytes : List ℕ) × IsLoaded seen name script_limit bytes × IsScript ghes.id bytes lines
 
 -- The two files were replayed: the ledger is lawful for the lines of the script, and the text is the text of that ledger.
 pub record IsReplayed (seen : FilesSeen) (hest script : List ℕ) (ledger : Kept) (text : List ℕ) : Type 0 where
@@ -82,66 +35,6 @@ pub record IsReplayed (seen : FilesSeen) (hest script : List ℕ) (ledger : Kept
   pub history : List Step
   pub lawful : IsLawful lines ledger history
   pub told : text ≡ replay_text ghes.id lines ledger history
-
--- why a table is refused, or not loaded
-abbrev pub TableCause : FilesSeen → FilesSeen → List ℕ → Refusal → Type 0
-TableCause before after name (refusals.Load files.Hest loads.Failed) = Rose before.faults after.faults × AddsNames before after (name ∷ [])
-TableCause before after name (refusals.Load files.Hest loads.TooLong) = IsLonger (before.contents name) table_limit
-TableCause before after name (refusals.Load files.Hest loads.OutOfMemory) = ⊥
-TableCause before after name (refusals.Load files.Script why) = ⊥
-TableCause before after name (refusals.Hest error) = (bytes : List ℕ) × IsLoaded before name table_limit bytes × (hest_of bytes ≡ Err error)
-TableCause before after name (refusals.Script line) = ⊥
-TableCause before after name refusals.Usage = ⊥
-TableCause before after name refusals.OutOfMemory = Unit {0}
-
--- why a script is refused, or not loaded
-abbrev pub ScriptCause : FilesSeen → FilesSeen → List ℕ → Ghes → Refusal → Type 0
-ScriptCause before after name ghes (refusals.Load files.Script loads.Failed) = Rose before.faults after.faults × AddsNames before after (name ∷ [])
-ScriptCause before after name ghes (refusals.Load files.Script loads.TooLong) = IsLonger (before.contents name) script_limit
-ScriptCause before after name ghes (refusals.Load files.Script loads.OutOfMemory) = ⊥
-ScriptCause before after name ghes (refusals.Load files.Hest why) = ⊥
-ScriptCause before after name ghes (refusals.Hest error) = ⊥
-ScriptCause before after name ghes (refusals.Script line) = (bytes : List ℕ) × IsLoaded before name script_limit bytes × IsRefusedAt ghes.id bytes line
-ScriptCause before after name ghes refusals.Usage = ⊥
-ScriptCause before after name ghes refusals.OutOfMemory = Unit {0}
-
--- what reading a table answers
-abbrev pub ReadsTable : List ℕ → Result Ghes Refusal → Type 0
-ReadsTable bytes (Ok ghes) = hest_of bytes ≡ Ok (sources.Ghes ghes ∷ [])
-ReadsTable bytes (Err (refusals.Hest error)) = hest_of bytes ≡ Err error
-ReadsTable bytes (Err refusals.OutOfMemory) = Unit {0}
-ReadsTable bytes (Err refusals.Usage) = ⊥
-ReadsTable bytes (Err (refusals.Load file why)) = ⊥
-ReadsTable bytes (Err (refusals.Script line)) = ⊥
-
--- what reading a script answers: its lines ask for the first source alone, and there are at most as many as bytes
-abbrev pub ReadsLines : ℕ → List ℕ → Result (List Line) Refusal → Type 0
-ReadsLines id bytes (Ok lines) = IsScript id bytes lines × (length lines ≤ length bytes)
-ReadsLines id bytes (Err (refusals.Script line)) = IsRefusedAt id bytes line
-ReadsLines id bytes (Err refusals.OutOfMemory) = Unit {0}
-ReadsLines id bytes (Err refusals.Usage) = ⊥
-ReadsLines id bytes (Err (refusals.Load file why)) = ⊥
-ReadsLines id bytes (Err (refusals.Hest error)) = ⊥
-
--- the refusal for a file that was not loaded
-abbrev pub load_refusal : InputFile → LoadError → Refusal
-load_refusal file loads.Failed = refusals.Load file loads.Failed
-load_refusal file loads.TooLong = refusals.Load file loads.TooLong
-load_refusal file loads.OutOfMemory = refusals.OutOfMemory
-
--- what loading a table answers
-pub record LoadsTable (before after : FilesSeen) (name : List ℕ) (result : Result Ghes Refusal) : Type 0 where
-  pub loads : Loads (λ other. other ≡ name) before after
-  pub found : IfOk result (HasTable before name)
-  pub unfailed : OnOk result (after.failed ≡ before.failed)
-  pub refused : IfErr result (TableCause before after name)
-
--- what loading a script answers: its lines are of the first source, and fewer than the script's bytes
-pub record LoadsScript (before after : FilesSeen) (name : List ℕ) (ghes : Ghes) (result : Result (List Line) Refusal) : Type 0 where
-  pub loads : Loads (λ other. other ≡ name) before after
-  pub found : IfOk result (HasScript before name ghes)
-  pub few : IfOk result (λ lines. length lines < 2 ^ 32)
-  pub refused : IfErr result (ScriptCause before after name ghes)
 
 -- why a replay of two files is refused: the table is judged first, and the script only where the table is accepted
 abbrev pub ReplayCause : FilesSeen → FilesSeen → List ℕ → List ℕ → Refusal → Type 0

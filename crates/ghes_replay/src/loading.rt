@@ -1,5 +1,6 @@
 ghost use Rattle.std.specs.Prelude.{◌≡◌, ◌<◌, ◌^◌, ◌-◌, length};
-ghost use Rattle.ghes_replay.specs.Run.{files_seen, LoadsTable, LoadsScript, ReadsTable, ReadsLines, load_refusal};
+ghost use Rattle.ghes_replay.specs.Seen.{files_seen};
+ghost use Rattle.ghes_replay.specs.Loading.{LoadsTable, LoadsScript, ReadsTable, ReadsLines, load_refusal};
 ghost use Rattle.ghes_replay.specs.Views.{lines_of};
 
 use crate::script::{ScriptError, read_script};

@@ -1,6 +1,7 @@
 ghost use Rattle.std.specs.Prelude.{◌≡◌, ◌≤◌, OnOk, OnErr};
 ghost use Rattle.ghes_outside.specs.Outside.{Rose, Appends, AppendsFront};
-ghost use Rattle.ghes_replay.specs.Run.{sink_seen, WasPut};
+ghost use Rattle.ghes_replay.specs.Seen.{sink_seen};
+ghost use Rattle.ghes_replay.specs.Run.{WasPut};
 
 use crate::{Ledger, RunEnd};
 use ghes_outside::{PutFailed, Sink};

@@ -1,7 +1,8 @@
 ghost use Rattle.std.specs.Prelude.{◌≡◌, ◌<◌, ◌^◌, ◌⊎◌, IsTrue, length, List, ℕ, MatchOption, map};
 ghost use Rattle.std.specs.List.{AllByRecursion};
 ghost use Rattle.std.specs.String.{string_bytes};
-ghost use Rattle.ghes_replay.specs.Run.{files_seen, sink_seen, IsReplay, RunsLines, Replays, Answers, Loads, IsFileWord, EndsBy, PutsText, IsAccepted, is_status};
+ghost use Rattle.ghes_replay.specs.Seen.{files_seen, sink_seen, Loads};
+ghost use Rattle.ghes_replay.specs.Run.{IsReplay, RunsLines, Replays, Answers, IsFileWord, EndsBy, PutsText, IsAccepted, is_status};
 ghost use Rattle.ghes_outside.specs.Outside.{Rose};
 ghost use Rattle.ghes_replay.specs.Script.{IsOfFirst};
 ghost use Rattle.ghes_replay.specs.Views.{replayed_of};
