@@ -7,6 +7,8 @@ mod bytes;
 mod gas;
 mod region;
 mod sdt;
+#[cfg(test)]
+mod tests;
 
 pub use bytes::Bytes;
 pub use gas::{Gas, GasError};
