@@ -1,5 +1,5 @@
 -- The definitions computed on the sample table, so that each field is held against known bytes.
-use Rattle.std.proofs.Common.{◌≡◌, ℕ, [], ◌∷◌, true, false, take, None, Ok, Err, refl}
+use Rattle.std.proofs.Common.{◌≡◌, [], ◌∷◌, true, false, take, None, Ok, Err, refl}
 use Rattle.apei_base.proofs.Samples.{one_source, one_source_with}
 use Rattle.apei_base.specs.declared.sdt.SdtError.TheVariants.{Length, Checksum}
 use Rattle.apei_hest.specs.Built.{is_built, source_of}
