@@ -18,7 +18,7 @@ gas_of bytes = record {
   address = little_number 8 (drop 4 bytes);
 }
 
--- how many bits from the start of the register its field ends
+-- how many bits from the lowest bit of the register its field ends (ACPI 6.5, 5.2.3.2)
 abbrev pub bits_needed : Gas → ℕ
 bits_needed gas = gas.bit_offset + gas.bit_width
 
@@ -26,8 +26,8 @@ bits_needed gas = gas.bit_offset + gas.bit_width
 abbrev pub smallest_width : ℕ → ℕ
 smallest_width bits = if nat_le bits 8 then 8 else if nat_le bits 16 then 16 else if nat_le bits 32 then 32 else 64
 
--- the width that the access size code names: 1 byte, 2 word, 3 dword, 4 qword; 0 leaves it to the field
--- (ACPI 6.5, 5.2.3.2; code 0: own choice)
+-- the width in bits that the access size code names: 1 byte, 2 word, 3 dword, 4 qword; 0 leaves it to the field
+-- (ACPI 6.5, 5.2.3.2; that code 0 leaves it to the field: own choice)
 abbrev pub coded_width : Gas → ℕ
 coded_width gas =
     if gas.access == 0 then smallest_width (bits_needed gas)
@@ -36,18 +36,20 @@ coded_width gas =
     else if gas.access == 3 then 32
     else 64
 
--- a whole register at an aligned address is accessed whole, whatever its code says (own choice, after Linux)
+-- whether the field is a whole register of this width at an aligned address
+-- (After Linux 6.1, drivers/acpi/apei/apei-base.c)
 abbrev pub is_whole : Gas → ℕ → Bool
 is_whole gas width = (gas.bit_width == width) && (gas.bit_offset == 0) && (gas.address % (width / 8) == 0)
 
--- the width of an access in bits: 8, 16, 32 or 64
+-- the width of an access in bits: 8, 16, 32 or 64; a whole aligned register is not read in narrower parts,
+-- whatever its code says (ACPI 6.5, 5.2.3.2; the whole register: After Linux 6.1, drivers/acpi/apei/apei-base.c)
 abbrev pub access_width : Gas → ℕ
 access_width gas =
     if is_whole gas 64 then 64
     else if is_whole gas 32 then max 32 (coded_width gas)
     else coded_width gas
 
--- why a generic address names no region, the first that holds (own order)
+-- why a generic address names no region, the first reason that holds (own choice)
 abbrev pub gas_refusal : Gas → Option GasError
 gas_refusal gas = first_of (
     (nat_lt 1 gas.space, errors.Space) ∷

@@ -1,4 +1,4 @@
-ghost use Rattle.std.specs.Prelude.{◌≡◌, ◌≤◌, IfOk, IsTrue};
+ghost use Rattle.std.specs.Prelude.{◌≡◌, ◌≤◌, ◌+◌, ◌/◌, ◌^◌, IfOk, IsTrue};
 ghost use Rattle.apei_base.specs.Width.{is_width};
 ghost use Rattle.apei_base.specs.Region.{smallest_width};
 
@@ -7,35 +7,35 @@ use byteorder::{ByteOrder, LittleEndian};
 use std::error::Error;
 use std::fmt;
 
-/// A generic address as a table has it, not checked.
+/// A generic address (GAS) as a table has it, not checked: a register, and the field of bits in it that counts.
 ///
 /// Source: ACPI 6.5, 5.2.3.2.
 #[derive(Clone, Copy, Debug, PartialEq, Eq)]
 pub struct Gas {
-    /// 0 memory, 1 I/O.
+    /// The address space: 0 memory, 1 I/O ports. Other codes are refused by `check`.
     pub space: u8,
-    /// In bits.
+    /// How wide the field is, in bits.
     pub bit_width: u8,
-    /// In bits from the start of the register.
+    /// Where the field begins, in bits from the lowest bit of the register.
     pub bit_offset: u8,
-    /// 1 byte, 2 word, 3 dword, 4 qword, 0 undefined.
+    /// The code of the access size: 1 byte, 2 word, 3 dword, 4 qword, 0 undefined.
     pub access: u8,
-    /// Of the register's first byte.
+    /// The address of the register's first byte.
     pub address: u64,
 }
 
 /// Why a generic address names no region, in the order of the tests.
 #[derive(Clone, Copy, Debug, PartialEq, Eq)]
 pub enum GasError {
-    /// The space is neither memory nor I/O.
+    /// The space is neither memory nor I/O ports.
     Space,
-    /// The access size code is above 4.
+    /// The code of the access size is above 4.
     AccessSize,
-    /// The field does not fit the access width.
+    /// The field ends behind the last bit of one access.
     TooWide,
-    /// An I/O region of 64 bits.
+    /// An I/O region of 64 bits: a port is read in 8, 16 or 32.
     PortWidth,
-    /// The region passes the greatest address.
+    /// The region's last byte lies past the greatest address, 2^64 - 1.
     PastEnd,
 }
 
@@ -73,6 +73,7 @@ fn smallest_width(bits: u16) -> u8
 impl Gas {
     ghost use Rattle.std.specs.Result.{result_err};
     ghost use Rattle.apei_base.specs.Region.{gas_of, gas_refusal, coded_width, is_whole, access_width, space_of};
+    ghost use Rattle.apei_base.specs.declared.region.Space.TheVariants.{Port};
 
     /// Reads the generic address that the bytes spell.
     pub fn read(bytes: &[u8; 12]) -> Gas
@@ -87,7 +88,7 @@ impl Gas {
         }
     }
 
-    // The width in bits that an access has by the code alone.
+    // The width in bits that an access has by the code, and by the field where the code is 0.
     fn coded_width(&self) -> u8
         ensures { result ≡ coded_width self.now }
     {
@@ -100,7 +101,7 @@ impl Gas {
         }
     }
 
-    // A whole register of this width at an aligned address.
+    // Whether the field is a whole register of this width, in bits, at an aligned address.
     fn is_whole(&self, width: u8) -> bool
         requires { 8 ≤ width }
         ensures { result ≡ is_whole self.now width }
@@ -124,12 +125,22 @@ impl Gas {
 
     /// The region that the address names: the whole access, not only the field in it.
     ///
-    /// The refusals are tested in the order of `GasError`.
+    /// The refusals are tested in the order of `GasError`. An access is as wide as its code says, but a whole
+    /// aligned register of 32 or 64 bits is never read in narrower parts: firmware often states such a
+    /// register with the code for bytes.
+    /// Source: ACPI 6.5, 5.2.3.2. The whole register: After Linux 6.1, drivers/acpi/apei/apei-base.c.
+    /// Access code 0, and the order of the refusals: Own choice.
     pub fn check(&self) -> Result<Region, GasError>
         ensures err { result_err result ≡ gas_refusal self.now }
         ensures space { IfOk result (λ region. region.space ≡ space_of self.now.space) }
         ensures address { IfOk result (λ region. region.address ≡ self.now.address) }
         ensures width { IfOk result (λ region. region.width ≡ access_width self.now) }
+
+        // What a region is, whatever the rule for its width: the field lies in one access, which an I/O port
+        // can make, and whose bytes all have an address.
+        ensures within { IfOk result (λ region. self.now.bit_offset + self.now.bit_width ≤ region.width) }
+        ensures no_wide_port { IfOk result (λ region. region.space ≡ Port → region.width ≤ 32) }
+        ensures in_space { IfOk result (λ region. region.address + region.width / 8 ≤ 2 ^ 64) }
     {
         if self.space > 1 {
             return Err(GasError::Space);

@@ -5,14 +5,14 @@ use byteorder::{ByteOrder, LittleEndian};
 use std::error::Error;
 use std::fmt;
 
-/// Why bytes are no table of a signature, in the order of the tests.
+/// Why bytes are no table of the signature that was asked for, in the order of the tests.
 #[derive(Clone, Copy, Debug, PartialEq, Eq)]
 pub enum SdtError {
-    /// Fewer bytes than the header has.
+    /// Fewer than the 36 bytes of the header.
     Short,
-    /// Another signature.
+    /// The first four bytes are another signature.
     Signature,
-    /// The stated length is not the number of bytes.
+    /// The length that the header states is not the number of bytes.
     Length,
     /// The bytes do not add up to 0 modulo 256.
     Checksum,
@@ -36,11 +36,12 @@ impl fmt::Display for SdtError {
 
 impl Error for SdtError {}
 
-/// A system description table: what its header says, and the bytes behind it.
+/// A system description table (SDT): what its header says, and the bytes behind it.
 ///
 /// Source: ACPI 6.5, 5.2.6.
 #[derive(Debug, Drop)]
 pub struct Sdt<'a> {
+    /// The revision of the table's form, the byte at offset 8.
     pub revision: u8,
     /// The table from byte 36 on.
     pub body: &'a [u8],
@@ -65,7 +66,8 @@ impl<'a> Sdt<'a> {
 
     /// Reads the header of a table, and tests its signature, its length and its checksum.
     ///
-    /// `bytes` is the whole table. The refusals are tested in the order of `SdtError`.
+    /// `bytes` is the whole table and no byte more. The refusals are tested in the order of `SdtError`.
+    /// Source: ACPI 6.5, 5.2.6. The order of the refusals: Own choice.
     pub fn read(bytes: &'a [u8], signature: &[u8; 4]) -> Result<Sdt<'a>, SdtError>
         ensures table { IsOk result ↔ IsTable signature.now bytes.now }
         ensures err { result_err result ≡ sdt_refusal signature.now bytes.now }

@@ -1,10 +1,10 @@
--- The HEST of the form that is built so far.
+-- The one form of a HEST that is read so far.
 use Rattle.std.specs.Prelude.{ℕ, Bool, ◌&&◌, ◌||◌, ◌==◌, nat_le, List, length, drop, is_none}
 use Rattle.apei_base.specs.Region.{gas_refusal, access_width}
 use Rattle.apei_hest.specs.Source.{number_at, ghes_of}
 use Rattle.apei_hest.specs.declared.source.Ghes.{Ghes}
 
--- the status address register is read in 32 or 64 bits
+-- the status address register is read in 32 or 64 bits (own choice)
 abbrev pub has_wide_status : Ghes → Bool
 has_wide_status ghes =
     is_none (gas_refusal ghes.status) && ((access_width ghes.status == 32) || (access_width ghes.status == 64))

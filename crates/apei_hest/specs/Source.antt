@@ -6,11 +6,11 @@ use Rattle.apei_base.specs.declared.gas.Gas.{Gas}
 use Rattle.apei_hest.specs.declared.source.Ghes.{Ghes}
 use Rattle.apei_hest.specs.declared.source.Notify.{Notify}
 
--- the number in the n bytes at an offset
+-- the number in the n bytes at an offset, the lowest byte first (ACPI 6.5, 5.2)
 abbrev pub number_at : ℕ → ℕ → List ℕ → ℕ
 number_at offset n bytes = little_number n (drop offset bytes)
 
--- the generic address in the 12 bytes at an offset
+-- the generic address in the 12 bytes at an offset (ACPI 6.5, 5.2.3.2)
 abbrev pub gas_at : ℕ → List ℕ → Gas
 gas_at offset bytes = gas_of (take 12 (drop offset bytes))
 
@@ -28,7 +28,8 @@ notify_of bytes = record {
   error_window = number_at 24 4 bytes;
 }
 
--- the GHES structure that begins the bytes, and stands at this offset in its table (ACPI 6.5, 18.3.2.7)
+-- the GHES structure that begins the bytes, and stands at this offset in its table
+-- (ACPI 6.5, 18.3.2.7; that any enable byte but 0 enables it: After Linux 6.1, drivers/acpi/apei/ghes.c)
 unfoldable pub ghes_of : List ℕ → ℕ → Ghes
 ghes_of bytes at = record {
   id = number_at 2 2 bytes;

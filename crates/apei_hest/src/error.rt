@@ -3,13 +3,14 @@ use std::alloc::{AllocError, AllocFailed};
 use std::error::Error;
 use std::fmt;
 
-/// Why a HEST is refused.
+/// Why a HEST is refused. Bytes that are no table are refused before all else.
 #[derive(Clone, Copy, Debug, PartialEq, Eq)]
 pub enum HestError {
-    /// The bytes are no table.
+    /// The bytes are no table with the signature HEST.
     Table(SdtError),
-    /// A table, and not of the form that is built so far.
+    /// A table, and not of the one form that is read so far.
     NotBuilt,
+    /// The table is read, and there is no memory for its sources.
     OutOfMemory,
 }
 

@@ -8,7 +8,9 @@ use byteorder::{ByteOrder, LittleEndian};
 use std::alloc::Global;
 use std::marker::Model;
 
-/// The error sources of a HEST.
+/// The error sources of a HEST, the hardware error source table. A contract sees the list of them.
+///
+/// Source: ACPI 6.5, 18.3.2.
 #[derive(Debug, Drop)]
 pub struct Hest {
     sources: Vec<Source>,
@@ -23,7 +25,7 @@ impl Model for Hest {
     ghost view = { λ h. h.sources.items };
 }
 
-/// Where the first structure begins, in bytes from the start of the table.
+// Where the first structure begins, in bytes from the start of the table: behind the header and the count.
 const FIRST_STRUCTURE: u32 = 40;
 
 // Whether the status address register of a source is read in 32 or 64 bits.
@@ -36,7 +38,7 @@ fn has_wide_status(ghes: &Ghes) -> bool
     }
 }
 
-// Whether a table is of the form that is built so far.
+// Whether a table is of the one form that is read so far.
 #[tactic(auto, unfolding(crate::specs::Built::is_built))]
 fn is_built(bytes: &[u8]) -> bool
     ensures value { result ≡ is_built bytes.now }
@@ -60,8 +62,10 @@ impl Hest {
     /// Reads the error sources of a HEST, in table order.
     ///
     /// `bytes` is the whole table with its header. Bytes that are no table are refused first. So far
-    /// a table is accepted only with one enabled GHES structure of version 1 and nothing else.
-    /// Source: ACPI 6.5, 18.3.2. The form that is built so far: own choice.
+    /// a table is accepted only with one enabled structure of type 9 (a generic hardware error source of
+    /// version 1) and nothing else, whose block has room for the 20 bytes of a block's header, and whose
+    /// status address register is read in 32 or 64 bits.
+    /// Source: ACPI 6.5, 18.3.2. The one form that is accepted so far: Own choice.
     pub fn read(alloc: Global, bytes: &[u8]) -> Result<Hest, HestError>
         ensures { Gives result (hest_of bytes.now) }
     {

@@ -67,10 +67,10 @@ only_memory words before after sink_before sink_after (refusals.Script line) (he
 -- an accepted run ends with status 0 or 7
 pub is_complete : (words : List (List ℕ)) (before after : FilesSeen) (sink_before sink_after : SinkSeen) (status : ℕ) (ledger : Option Kept) → EndsBy words before after sink_before sink_after status ledger → IsAccepted words before after sink_before sink_after → (status ≡ 0) ⊎ (status ≡ 7)
 is_complete words before after sink_before sink_after status ledger (inl (kept, text, done, (same, put))) a = elim put [
-    inl whole ↦ inl whole.0
+  | inl whole ↦ inl whole.0
   | inr cut ↦ absurd (a.no_failed_put cut.1)
-  ]
+]
 is_complete words before after sink_before sink_after status ledger (inr (refusal, cause, (same, put))) a = elim put [
-    inl whole ↦ inr (whole.0 ∙ only_memory words before after sink_before sink_after refusal cause a)
+  | inl whole ↦ inr (whole.0 ∙ only_memory words before after sink_before sink_after refusal cause a)
   | inr cut ↦ absurd (a.no_failed_put cut.1)
-  ]
+]

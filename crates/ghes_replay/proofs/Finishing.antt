@@ -23,10 +23,10 @@ HasText id lines state text =
 
 has_text : (id : ℕ) (lines : List Line) (history : List Step) (state : Replay) (text : List ℕ) → acts_in history ≡ acts_of lines → state.pending ≡ [] → Follows history state → text ≡ history_text id history → HasText id lines state (text ++ summary_of id state)
 has_text id lines history state text all none follows told = (
-    history,
-    lawful_at_end lines history state all none follows,
-    ap (λ xs. xs ++ summary_of id state) told ∙ ap (λ xs. history_text id history ++ xs) (summary_is id lines history state all none follows),
-  )
+  history,
+  lawful_at_end lines history state all none follows,
+  ap (λ xs. xs ++ summary_of id state) told ∙ ap (λ xs. history_text id history ++ xs) (summary_is id lines history state all none follows),
+)
 
 pub finishes : (id : ℕ) (lines : List Line) (before after : Replay) (text_before text_after text : List ℕ) → Runs id lines before text_before → after ≡ executed script_end before → text_after ≡ text_before ++ step_text id (step_of script_end before) → text ≡ text_after ++ summary_of id after → HasText id lines after text
 finishes id lines before after text_before text_after text runs is_after is_text_after is_text =

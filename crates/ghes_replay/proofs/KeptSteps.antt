@@ -82,13 +82,13 @@ kept_call (Some block) false number state stands k =
     record {
       within = omega arith;
       numbers = λ s.
-        numbers_of-push s state.ledger.calls (Queued (n + 1)) ∙ ap (λ xs. xs ++ cond (eqb 0 s) ((n + 1) ∷ []) []) (k.numbers s)
-        ∙ cond-append (eqb 0 s) (range_with_len 1 n) ((n + 1) ∷ []) ∙ ap (λ xs. cond (eqb 0 s) xs []) (sym (range-push n));
+          numbers_of-push s state.ledger.calls (Queued (n + 1)) ∙ ap (λ xs. xs ++ cond (eqb 0 s) ((n + 1) ∷ []) []) (k.numbers s)
+          ∙ cond-append (eqb 0 s) (range_with_len 1 n) ((n + 1) ∷ []) ∙ ap (λ xs. cond (eqb 0 s) xs []) (sym (range-push n));
       packets = packets_queued state.blocks.made n block (map packet_of state.ledger.taken) state.pending stands k.packets;
       names =
-        queued_names-push state.ledger.calls (Queued (n + 1)) ∙ ap (λ xs. xs ++ (0, n + 1) ∷ []) k.names
-        ∙ append_assoc (taken_names state.ledger.taken) (map name_of state.pending) _
-        ∙ ap (λ xs. taken_names state.ledger.taken ++ xs) (sym (map-append name_of state.pending _));
+          queued_names-push state.ledger.calls (Queued (n + 1)) ∙ ap (λ xs. xs ++ (0, n + 1) ∷ []) k.names
+          ∙ append_assoc (taken_names state.ledger.taken) (map name_of state.pending) _
+          ∙ ap (λ xs. taken_names state.ledger.taken ++ xs) (sym (map-append name_of state.pending _));
       reports = k.reports;
       report_numbers = k.report_numbers;
     }
@@ -109,20 +109,20 @@ kept_work number state k =
       within = k.within;
       numbers = k.numbers;
       packets =
-        append-nil _ ∙ map-append packet_of old new ∙ ap (λ xs. map packet_of old ++ xs) (packets-deliveries n state.pending) ∙ k.packets;
+          append-nil _ ∙ map-append packet_of old new ∙ ap (λ xs. map packet_of old ++ xs) (packets-deliveries n state.pending) ∙ k.packets;
       names =
-        k.names ∙ ap (λ xs. taken_names old ++ xs) (sym (taken_names-deliveries n state.pending))
-        ∙ sym (map-append (λ entry. name_of (packet_of entry)) old new) ∙ sym (append-nil _);
+          k.names ∙ ap (λ xs. taken_names old ++ xs) (sym (taken_names-deliveries n state.pending))
+          ∙ sym (map-append (λ entry. name_of (packet_of entry)) old new) ∙ sym (append-nil _);
       reports =
-        ap (λ xs. xs ++ map report_of_packet state.pending) k.reports
-        ∙ ap (λ xs. map report_of old ++ xs) (sym (reports-deliveries n state.pending)) ∙ sym (map-append report_of old new);
+          ap (λ xs. xs ++ map report_of_packet state.pending) k.reports
+          ∙ ap (λ xs. map report_of old ++ xs) (sym (reports-deliveries n state.pending)) ∙ sym (map-append report_of old new);
       report_numbers =
-        let size : length (old ++ new) ≡ length old + length state.pending = length-append old new ∙ ap (λ m. length old + m) (length-deliveries n state.pending) in
-        let next : n + 1 ≡ 1 + length old = omega arith in
-        map-append report_number old new
-        ∙ ap (λ xs. xs ++ map report_number new) k.report_numbers
-        ∙ ap (λ xs. range_with_len 1 (length old) ++ xs) (numbers-deliveries n state.pending)
-        ∙ ap (λ m. range_with_len 1 (length old) ++ range_with_len m (length state.pending)) next
-        ∙ sym (range-add 1 (length old) (length state.pending))
-        ∙ ap (range_with_len 1) (sym size);
+          let size : length (old ++ new) ≡ length old + length state.pending = length-append old new ∙ ap (λ m. length old + m) (length-deliveries n state.pending) in
+          let next : n + 1 ≡ 1 + length old = omega arith in
+          map-append report_number old new
+          ∙ ap (λ xs. xs ++ map report_number new) k.report_numbers
+          ∙ ap (λ xs. range_with_len 1 (length old) ++ xs) (numbers-deliveries n state.pending)
+          ∙ ap (λ m. range_with_len 1 (length old) ++ range_with_len m (length state.pending)) next
+          ∙ sym (range-add 1 (length old) (length state.pending))
+          ∙ ap (range_with_len 1) (sym size);
     }

@@ -55,9 +55,9 @@ lawful_at_end lines history state all none f =
       other_outcomes = f.steps.other_outcomes;
       no_slot = f.steps.no_slot;
       one_fate = λ s.
-        ap (of_source s) packets ∙ of_source-packets s 1 (take state.blocks.acknowledged state.blocks.made)
-        ∙ fates_of (eqb 0 s) s state.blocks.acknowledged state.blocks.made (numbers_of s state.ledger.calls) (queue s (acts_of lines)) refl (f.kept.numbers s)
-            (ap (queue s) (sym all) ∙ f.told.queue s);
+          ap (of_source s) packets ∙ of_source-packets s 1 (take state.blocks.acknowledged state.blocks.made)
+          ∙ fates_of (eqb 0 s) s state.blocks.acknowledged state.blocks.made (numbers_of s state.ledger.calls) (queue s (acts_of lines)) refl (f.kept.numbers s)
+          (ap (queue s) (sym all) ∙ f.told.queue s);
       order = sym (f.kept.names ∙ ap (λ xs. taken_names state.ledger.taken ++ map name_of xs) none ∙ append-nil _);
       drained = f.steps.drained;
       reports = f.kept.reports;
@@ -73,6 +73,6 @@ summary_is id lines history state all none f =
     let of_one : of_source 0 (map packet_of state.ledger.taken) ≡ map packet_of state.ledger.taken = ap (of_source 0) packets ∙ of_source-packets 0 1 _ ∙ sym packets in
     let delivered : length state.ledger.taken ≡ length (of_source 0 (map packet_of state.ledger.taken)) = sym (ap length of_one ∙ length-map state.ledger.taken packet_of) in
     ap (λ xs. xs ++ totals_line (length state.ledger.reports) (count_by has_no_slot state.ledger.calls)) (
-      ap (λ n. source_line id n state.blocks.acknowledged (length state.ledger.taken)) raised
-      ∙ ap (λ n. source_line id (length (queue 0 (acts_of lines))) n (length state.ledger.taken)) taken_note
-      ∙ ap (λ n. source_line id (length (queue 0 (acts_of lines))) (acknowledged 0 state.ledger.calls) n) delivered)
+    ap (λ n. source_line id n state.blocks.acknowledged (length state.ledger.taken)) raised
+    ∙ ap (λ n. source_line id (length (queue 0 (acts_of lines))) n (length state.ledger.taken)) taken_note
+    ∙ ap (λ n. source_line id (length (queue 0 (acts_of lines))) (acknowledged 0 state.ledger.calls) n) delivered)

@@ -13,8 +13,8 @@ front_of_text old middle new text done piece after cut first last = record {
   front = done ++ last.front;
   rest = last.rest ++ after;
   whole =
-    cut ∙ ap (λ xs. done ++ (xs ++ after)) last.whole ∙ ap (λ xs. done ++ xs) (append_assoc last.front last.rest after)
-    ∙ sym (append_assoc done last.front (last.rest ++ after));
+      cut ∙ ap (λ xs. done ++ (xs ++ after)) last.whole ∙ ap (λ xs. done ++ xs) (append_assoc last.front last.rest after)
+      ∙ sym (append_assoc done last.front (last.rest ++ after));
   taken = appends_both old middle new done last.front first last.taken;
 }
 

@@ -70,7 +70,7 @@ replay_refused before middle after hest script ghes refusal table loaded = recor
   loads = loads_of_both before middle after hest script table.loads loaded.loads;
   found = tt;
   refused = cause_of_script before after hest script ghes refusal table.found
-    (cause_earlier before middle after script ghes refusal (table.loads.contents script) table.loads.grows table.unfailed loaded.refused);
+      (cause_earlier before middle after script ghes refusal (table.loads.contents script) table.loads.grows table.unfailed loaded.refused);
 }
 
 -- the lines were replayed, or memory ran out

@@ -68,8 +68,8 @@ runs_more id lines i line state text inside here all r =
     record {
       history = step_of (act_of line) state ∷ r.history;
       acts =
-        ap (λ xs. xs ++ act_of line ∷ []) r.acts ∙ sym (map-append act_of (take i lines) (line ∷ []))
-        ∙ ap (map act_of) (sym one_more);
+          ap (λ xs. xs ++ act_of line ∷ []) r.acts ∙ sym (map-append act_of (take i lines) (line ∷ []))
+          ∙ ap (map act_of) (sym one_more);
       follows = follows_step line.number (Some line.what) r.history state first r.follows;
       told = ap (λ xs. xs ++ step_text id (step_of (act_of line) state)) r.told;
     }
@@ -77,11 +77,11 @@ runs_more id lines i line state text inside here all r =
 -- the end of the script
 pub runs_end : (id : ℕ) (lines : List Line) (state : Replay) (text : List ℕ) → Runs id lines state text → (history : List Step) × (acts_in history ≡ acts_of lines) × Follows history (executed script_end state) × (text ++ step_text id (step_of script_end state) ≡ history_text id history)
 runs_end id lines state text r = (
-    step_of script_end state ∷ r.history,
-    ap (λ xs. xs ++ script_end ∷ []) r.acts,
-    follows_step 0 None r.history state tt r.follows,
-    ap (λ xs. xs ++ step_text id (step_of script_end state)) r.told,
-  )
+  step_of script_end state ∷ r.history,
+  ap (λ xs. xs ++ script_end ∷ []) r.acts,
+  follows_step 0 None r.history state tt r.follows,
+  ap (λ xs. xs ++ step_text id (step_of script_end state)) r.told,
+)
 
 abbrev with_parts : Raised → List Packet → Kept → Replay
 with_parts blocks pending ledger = record { blocks = blocks; pending = pending; ledger = ledger }
@@ -113,9 +113,9 @@ runs_from_start id = record {
 pub runs_none : (id : ℕ) (state : Replay) (text : List ℕ) → state.blocks ≡ record { made = []; acknowledged = 0 } → state.pending ≡ [] → state.ledger ≡ record { calls = []; taken = []; reports = []; marks = [] } → text ≡ [] → Runs id [] state text
 runs_none id state text blocks pending ledger none =
     let same : state ≡ start =
-        ap (λ b. with_parts b state.pending state.ledger) blocks
-        ∙ ap (λ p. with_parts (record { made = []; acknowledged = 0 }) p state.ledger) pending
-        ∙ ap (λ l. with_parts (record { made = []; acknowledged = 0 }) [] l) ledger in
+    ap (λ b. with_parts b state.pending state.ledger) blocks
+    ∙ ap (λ p. with_parts (record { made = []; acknowledged = 0 }) p state.ledger) pending
+    ∙ ap (λ l. with_parts (record { made = []; acknowledged = 0 }) [] l) ledger in
     let P : Replay → Type 0 = λ w. Runs id [] w text in
     let Q : List ℕ → Type 0 = λ t. Runs id [] start t in
     subst P (sym same) (subst Q (sym none) (runs_from_start id))

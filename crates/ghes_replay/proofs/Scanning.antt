@@ -22,13 +22,13 @@ scans_more id bytes lines number what rest text after numbered first line scans 
     let count = length_push lines new in
     record {
       spells = λ more s.
-        let n : ℕ → Type 0 = λ k. SpellsFrom id (k + 1) after more in
-        let S : List Line → Type 0 = λ xs. SpellsFrom id 1 bytes xs in
-        subst S (sym (append_assoc lines (new ∷ []) more)) (scans.spells (new ∷ more) (text, after, first, numbered, line, subst n count s));
+          let n : ℕ → Type 0 = λ k. SpellsFrom id (k + 1) after more in
+          let S : List Line → Type 0 = λ xs. SpellsFrom id 1 bytes xs in
+          subst S (sym (append_assoc lines (new ∷ []) more)) (scans.spells (new ∷ more) (text, after, first, numbered, line, subst n count s));
       refuses = λ more at r.
-        let n : ℕ → Type 0 = λ k. RefusesFrom id (k + 1) after more at in
-        let S : List Line → Type 0 = λ xs. RefusesFrom id 1 bytes xs at in
-        subst S (sym (append_assoc lines (new ∷ []) more)) (scans.refuses (new ∷ more) at (text, after, first, numbered, line, subst n count r));
+          let n : ℕ → Type 0 = λ k. RefusesFrom id (k + 1) after more at in
+          let S : List Line → Type 0 = λ xs. RefusesFrom id 1 bytes xs at in
+          subst S (sym (append_assoc lines (new ∷ []) more)) (scans.refuses (new ∷ more) at (text, after, first, numbered, line, subst n count r));
     }
 
 -- the end of the script

@@ -33,8 +33,8 @@ told_raise block number history state t = record {
   taken = t.taken ∙ sym (append-nil _);
   marks = mark_pushed number _ _ state.ledger.calls (calls_in history ++ []) state.ledger.taken (taken_in history ++ []) t.marks (t.calls ∙ sym (append-nil _)) (t.taken ∙ sym (append-nil _));
   queue = λ s.
-    queue-push s (acts_in history) _ ∙ ap (λ xs. xs ++ cond (eqb 0 s) (block ∷ []) []) (t.queue s)
-    ∙ cond-append (eqb 0 s) state.blocks.made (block ∷ []);
+      queue-push s (acts_in history) _ ∙ ap (λ xs. xs ++ cond (eqb 0 s) (block ∷ []) []) (t.queue s)
+      ∙ cond-append (eqb 0 s) state.blocks.made (block ∷ []);
 }
 
 -- after a call
@@ -48,10 +48,10 @@ told_call standing full number history state t =
       marks = mark_pushed number _ _ (state.ledger.calls ++ call ∷ []) (calls_in history ++ call ∷ []) state.ledger.taken (taken_in history ++ []) t.marks calls (t.taken ∙ sym (append-nil _));
       queue = λ s. queue_stays s (acts_in history) _ refl ∙ t.queue s ∙ made_stays standing full s;
     } where
-  made_stays : (standing : Option (List ℕ)) (full : Bool) (s : ℕ) → cond (eqb 0 s) state.blocks.made [] ≡ cond (eqb 0 s) (marked number (called_by standing full 0 state)).blocks.made []
-  made_stays None full s = refl
-  made_stays (Some block) true s = refl
-  made_stays (Some block) false s = refl
+      made_stays : (standing : Option (List ℕ)) (full : Bool) (s : ℕ) → cond (eqb 0 s) state.blocks.made [] ≡ cond (eqb 0 s) (marked number (called_by standing full 0 state)).blocks.made []
+      made_stays None full s = refl
+      made_stays (Some block) true s = refl
+      made_stays (Some block) false s = refl
 
 -- after an act that drains and makes no block
 pub told_work : (what : Option What) (number : ℕ) (history : List Step) (state : Replay) → ((s : ℕ) → raised_by s what ≡ []) → IsTold history state → IsTold (record { act = record { number = number; what = what }; calls = []; taken = deliveries (length state.ledger.reports) state.pending } ∷ history) (marked number (worked state))

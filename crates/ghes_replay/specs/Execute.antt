@@ -23,7 +23,7 @@ deliveries reports (packet ∷ packets) = delivery_of (reports + 1) packet ∷ d
 abbrev pub drained : List Packet → Kept → Kept
 drained packets kept = record kept {
   taken = kept.taken ++ deliveries (length kept.reports) packets;
-  reports = kept.reports ++ map report_of_packet packets
+  reports = kept.reports ++ map report_of_packet packets;
 }
 
 -- the outcome of a call now
@@ -39,7 +39,7 @@ abbrev pub called_by : Option (List ℕ) → Bool → ℕ → Replay → Replay
 called_by standing full source replay = record {
   blocks = blocks_after (outcome_of standing full (replay.blocks.acknowledged + 1)) replay.blocks;
   pending = pending_after source (outcome_of standing full (replay.blocks.acknowledged + 1)) standing replay.pending;
-  ledger = record replay.ledger { calls = replay.ledger.calls ++ call_at source (outcome_of standing full (replay.blocks.acknowledged + 1)) ∷ [] }
+  ledger = record replay.ledger { calls = replay.ledger.calls ++ call_at source (outcome_of standing full (replay.blocks.acknowledged + 1)) ∷ [] };
 }
 
 -- after a call on a source

@@ -49,11 +49,11 @@ taken_in (step ∷ before) = taken_in before ++ step.taken
 abbrev pub marks_in : List Step → List Mark
 marks_in [] = []
 marks_in (step ∷ before) =
-  marks_in before ++ record {
-    line = step.act.number;
-    calls = length (calls_in (step ∷ before));
-    taken = length (taken_in (step ∷ before))
-  } ∷ []
+    marks_in before ++ record {
+      line = step.act.number;
+      calls = length (calls_in (step ∷ before));
+      taken = length (taken_in (step ∷ before));
+    } ∷ []
 
 -- P holds of each step and the steps before it
 abbrev pub Each : (List Step → Step → Type 0) → List Step → Type 0

@@ -89,16 +89,16 @@ pub record Answers (words : List (List ℕ)) (before after : FilesSeen) (result 
 -- A text was put: whole, with this status and ledger, or a front of it, with status 6 and this ledger.
 abbrev pub WasPut : SinkSeen → SinkSeen → List ℕ → ℕ → Option Kept → ℕ → Option Kept → Type 0
 WasPut before after text status ledger end_status end_ledger =
-  (end_ledger ≡ ledger)
-  × (((end_status ≡ status) × Appends before.written after.written text)
+    (end_ledger ≡ ledger)
+    × (((end_status ≡ status) × Appends before.written after.written text)
     ⊎ ((end_status ≡ 6) × Rose before.faults after.faults × AppendsFront before.written after.written text))
 
 -- How a run ends, by its words, its files and its output: the words are a replay that is done, and its text was put,
 -- or there is a refusal with its cause, and its line was put.
 abbrev pub EndsBy : List (List ℕ) → FilesSeen → FilesSeen → SinkSeen → SinkSeen → ℕ → Option Kept → Type 0
 EndsBy words before after sink_before sink_after status ledger =
-  ((kept : Kept) × (text : List ℕ) × IsDone words before kept text × WasPut sink_before sink_after text 0 (Some kept) status ledger)
-  ⊎ ((refusal : Refusal) × Cause words before after refusal × WasPut sink_before sink_after (line_of words refusal) (status_of refusal) None status ledger)
+    ((kept : Kept) × (text : List ℕ) × IsDone words before kept text × WasPut sink_before sink_after text 0 (Some kept) status ledger)
+    ⊎ ((refusal : Refusal) × Cause words before after refusal × WasPut sink_before sink_after (line_of words refusal) (status_of refusal) None status ledger)
 
 -- the statuses of a run
 abbrev pub is_status : ℕ → Bool
@@ -107,7 +107,7 @@ is_status status = (status == 0) || (status == 2) || (status == 3) || (status ==
 -- The run is done: its ledger is lawful for the script, and the bytes put are the text of that ledger.
 abbrev pub PutsText : List (List ℕ) → FilesSeen → SinkSeen → SinkSeen → Option Kept → Type 0
 PutsText words before sink_before sink_after ledger =
-  (kept : Kept) × (text : List ℕ) × IsDone words before kept text × (ledger ≡ Some kept) × Appends sink_before.written sink_after.written text
+    (kept : Kept) × (text : List ℕ) × IsDone words before kept text × (ledger ≡ Some kept) × Appends sink_before.written sink_after.written text
 
 -- The words are a replay, the files are told, within their limits and accepted, and no load and no put failed.
 pub record IsAccepted (words : List (List ℕ)) (before after : FilesSeen) (sink_before sink_after : SinkSeen) : Type 0 where

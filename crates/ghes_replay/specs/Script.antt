@@ -34,16 +34,16 @@ pub record IsFirstLine (bytes text rest : List ℕ) : Type 0 where
 abbrev pub SpellsFrom : ℕ → ℕ → List ℕ → List Line → Type 0
 SpellsFrom id number bytes [] = bytes ≡ []
 SpellsFrom id number bytes (line ∷ lines) =
-  (text : List ℕ) × (rest : List ℕ) × IsFirstLine bytes text rest × (line.number ≡ number) × IsLineOf id line.what text
-  × SpellsFrom id (number + 1) rest lines
+    (text : List ℕ) × (rest : List ℕ) × IsFirstLine bytes text rest × (line.number ≡ number) × IsLineOf id line.what text
+    × SpellsFrom id (number + 1) rest lines
 
 -- From this line number on, the bytes are these lines, and then, at the number `at`, a line that asks for nothing.
 abbrev pub RefusesFrom : ℕ → ℕ → List ℕ → List Line → ℕ → Type 0
 RefusesFrom id number bytes [] at =
-  (text : List ℕ) × (rest : List ℕ) × IsFirstLine bytes text rest × ((what : What) → IsLineOf id what text → ⊥) × (at ≡ number)
+    (text : List ℕ) × (rest : List ℕ) × IsFirstLine bytes text rest × ((what : What) → IsLineOf id what text → ⊥) × (at ≡ number)
 RefusesFrom id number bytes (line ∷ lines) at =
-  (text : List ℕ) × (rest : List ℕ) × IsFirstLine bytes text rest × (line.number ≡ number) × IsLineOf id line.what text
-  × RefusesFrom id (number + 1) rest lines at
+    (text : List ℕ) × (rest : List ℕ) × IsFirstLine bytes text rest × (line.number ≡ number) × IsLineOf id line.what text
+    × RefusesFrom id (number + 1) rest lines at
 
 -- the bytes are a script of these lines, numbered from 1 on
 abbrev pub IsScript : ℕ → List ℕ → List Line → Type 0

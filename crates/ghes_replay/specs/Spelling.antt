@@ -11,8 +11,8 @@ word_at offset bytes = little_number 4 (drop offset bytes)
 -- and data entries, and not fatal (ACPI 6.5, 18.3.2.7.1; the form: own choice).
 abbrev pub is_bare : List ℕ → Bool
 is_bare block =
-  (length block == 20) && not (word_at 0 block == 0) && (word_at 8 block == 0) && (word_at 12 block == 0)
-  && nat_le (word_at 16 block) 3 && not (word_at 16 block == 1)
+    (length block == 20) && not (word_at 0 block == 0) && (word_at 8 block == 0) && (word_at 12 block == 0)
+    && nat_le (word_at 16 block) 3 && not (word_at 16 block == 1)
 
 -- the line `nmi`, and the front of a line `raise`, of the source with this id
 abbrev pub nmi_line : ℕ → List ℕ

@@ -28,10 +28,10 @@ call_text id call = codes "nmi " ++ decimal id ++ codes ": " ++ outcome_text cal
 -- (ACPI 6.5, 18.3.2.7.1; above 3: own choice)
 abbrev pub severity_word : ℕ → List ℕ
 severity_word code =
-  if code == 0 then codes "recoverable"
-  else if code == 2 then codes "corrected"
-  else if code == 3 then codes "none"
-  else codes "fatal"
+    if code == 0 then codes "recoverable"
+    else if code == 2 then codes "corrected"
+    else if code == 3 then codes "none"
+    else codes "fatal"
 
 -- the severity code of a block, at offset 16; one without room for it is fatal (ACPI 6.5, 18.3.2.7.1; own choice)
 abbrev pub severity_code : List ℕ → ℕ
@@ -40,7 +40,7 @@ severity_code block = if nat_lt (length block) 20 then 1 else little_number 4 (d
 -- the lines of a delivered block, by the word for its severity
 unfoldable pub report_lines : ℕ → ℕ → List ℕ → List ℕ
 report_lines id seq severity =
-  codes "report source " ++ decimal id ++ codes " block " ++ decimal seq ++ codes "\n  severity " ++ severity ++ codes "\n"
+    codes "report source " ++ decimal id ++ codes " block " ++ decimal seq ++ codes "\n  severity " ++ severity ++ codes "\n"
 
 -- the lines of a delivered block
 abbrev pub report_text : ℕ → ℕ → List ℕ → List ℕ
@@ -70,19 +70,19 @@ has_no_slot call = found_none call.reply.outcome where
 -- the summary's line of the source: how many blocks it raised, had acknowledged and had delivered
 unfoldable pub source_line : ℕ → ℕ → ℕ → ℕ → List ℕ
 source_line id raised acknowledged delivered =
-  codes "summary\nsource " ++ decimal id ++ codes ": raised " ++ decimal raised ++ codes ", acknowledged " ++ decimal acknowledged
-  ++ codes ", delivered " ++ decimal delivered ++ codes ", duplicate 0, dropped 0, panic 0\n"
+    codes "summary\nsource " ++ decimal id ++ codes ": raised " ++ decimal raised ++ codes ", acknowledged " ++ decimal acknowledged
+    ++ codes ", delivered " ++ decimal delivered ++ codes ", duplicate 0, dropped 0, panic 0\n"
 
 -- the summary's last line: how many reports there are, and how many calls found no slot
 unfoldable pub totals_line : ℕ → ℕ → List ℕ
 totals_line reports no_slot =
-  codes "reports " ++ decimal reports ++ codes ", repeats 0, no slot " ++ decimal no_slot ++ codes ", fault 0\n"
+    codes "reports " ++ decimal reports ++ codes ", repeats 0, no slot " ++ decimal no_slot ++ codes ", fault 0\n"
 
 -- the summary of a replay
 abbrev pub summary_text : ℕ → List Line → Kept → List ℕ
 summary_text id lines kept =
-  source_line id (length (queue 0 (acts_of lines))) (acknowledged 0 kept.calls) (length (of_source 0 (map packet_of kept.taken)))
-  ++ totals_line (length kept.reports) (count_by has_no_slot kept.calls)
+    source_line id (length (queue 0 (acts_of lines))) (acknowledged 0 kept.calls) (length (of_source 0 (map packet_of kept.taken)))
+    ++ totals_line (length kept.reports) (count_by has_no_slot kept.calls)
 
 -- The text of a replay: the lines of its history, and the summary.
 abbrev pub replay_text : ℕ → List Line → Kept → List Step → List ℕ

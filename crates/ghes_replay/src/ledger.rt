@@ -123,8 +123,8 @@ impl Ledger {
     /// Enters a packet as delivered, and its report.
     pub(crate) fn enter_delivery(&mut self, alloc: Global, packet: Packet) -> Result<(), AllocError>
         ensures { OnOk result (self.new ≡ record self.old {
-            taken = self.old.taken ++ delivery_of (length self.old.reports + 1) packet ∷ [];
-            reports = self.old.reports ++ report_of_packet packet ∷ []
+          taken = self.old.taken ++ delivery_of (length self.old.reports + 1) packet ∷ [];
+          reports = self.old.reports ++ report_of_packet packet ∷ [];
         }) }
     {
         let Packet { source, seq, bytes } = packet;

@@ -71,11 +71,7 @@ fn replay_names(words: &[String]) -> Option<(&str, &str)>
 }
 
 // What the words ask for.
-fn answer<F: Files>(
-    alloc: Global,
-    words: &[String],
-    files: &mut F,
-) -> Result<Replayed, Refusal>
+fn answer<F: Files>(alloc: Global, words: &[String], files: &mut F) -> Result<Replayed, Refusal>
     ensures { Answers (map string_bytes words.now)
         (files_seen (F.contents files.old) (F.failed files.old) (F.faults files.old))
         (files_seen (F.contents files.new) (F.failed files.new) (F.faults files.new))
@@ -88,12 +84,7 @@ fn answer<F: Files>(
 }
 
 // Does what the words ask for, and puts its text or the line of its refusal.
-fn run<F: Files, K: Sink>(
-    alloc: Global,
-    words: &[String],
-    files: &mut F,
-    out: &mut K,
-) -> RunEnd
+fn run<F: Files, K: Sink>(alloc: Global, words: &[String], files: &mut F, out: &mut K) -> RunEnd
     ensures ends { EndsBy (map string_bytes words.now)
         (files_seen (F.contents files.old) (F.failed files.old) (F.faults files.old))
         (files_seen (F.contents files.new) (F.failed files.new) (F.faults files.new))

@@ -106,11 +106,7 @@ fn first_line(bytes: &[u8]) -> (&[u8], &[u8])
 /// Reads a script of the one source, which has this id.
 ///
 /// The first line that asks for nothing is refused, by its number from 1 on. Own choice.
-pub(crate) fn read_script(
-    alloc: Global,
-    id: u16,
-    bytes: &[u8],
-) -> Result<Vec<Line>, ScriptError>
+pub(crate) fn read_script(alloc: Global, id: u16, bytes: &[u8]) -> Result<Vec<Line>, ScriptError>
     requires { length bytes.now < 2 ^ 32 - 1 }
     ensures found { IfOk result (λ lines. IsScript id bytes.now lines.items) }
     ensures few { IfOk result (λ lines. vec_len lines ≤ length bytes.now) }

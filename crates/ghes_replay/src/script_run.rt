@@ -35,7 +35,13 @@ fn run_line(
     let taken = replay.ledger.taken.len();
     replay.execute(alloc, line)?;
     let ledger = &replay.ledger;
-    step_text(alloc, text, id, ledger.calls_from(calls), ledger.taken_from(taken))
+    step_text(
+        alloc,
+        text,
+        id,
+        ledger.calls_from(calls),
+        ledger.taken_from(taken),
+    )
 }
 
 // Executes the end of the script, and appends its text.
@@ -52,15 +58,17 @@ fn run_end(
     let taken = replay.ledger.taken.len();
     replay.finish(alloc)?;
     let ledger = &replay.ledger;
-    step_text(alloc, text, id, ledger.calls_from(calls), ledger.taken_from(taken))
+    step_text(
+        alloc,
+        text,
+        id,
+        ledger.calls_from(calls),
+        ledger.taken_from(taken),
+    )
 }
 
 /// Executes the lines of a script and then its end. All lines are of the one source, which has this id.
-pub(crate) fn run_script(
-    alloc: Global,
-    id: u16,
-    lines: &[Line],
-) -> Result<Replayed, AllocError>
+pub(crate) fn run_script(alloc: Global, id: u16, lines: &[Line]) -> Result<Replayed, AllocError>
     requires few { length lines.now < 2 ^ 32 }
     requires first { AllByRecursion (λ line. IsOfFirst line.what) lines.now }
     ensures { IfOk result (λ replayed. (history : List Step) × IsLawful lines.now replayed.ledger history

@@ -77,12 +77,7 @@ fn report_text(
 }
 
 // Appends the lines of the calls.
-fn calls_text(
-    alloc: Global,
-    into: &mut Vec<u8>,
-    id: u16,
-    calls: &[Call],
-) -> Result<(), AllocError>
+fn calls_text(alloc: Global, into: &mut Vec<u8>, id: u16, calls: &[Call]) -> Result<(), AllocError>
     ensures { OnOk result (into.new.items ≡ into.old.items ++ flat_map (call_text id) calls.now) }
 {
     for call in calls {
@@ -92,12 +87,7 @@ fn calls_text(
 }
 
 // Appends the lines of the taken blocks.
-fn taken_text(
-    alloc: Global,
-    into: &mut Vec<u8>,
-    id: u16,
-    taken: &[Taken],
-) -> Result<(), AllocError>
+fn taken_text(alloc: Global, into: &mut Vec<u8>, id: u16, taken: &[Taken]) -> Result<(), AllocError>
     ensures { OnOk result (into.new.items ≡ into.old.items ++ flat_map (taken_text id) taken.now) }
 {
     for entry in taken {
@@ -145,7 +135,9 @@ fn source_line(
 ) -> Result<String, AllocError>
     ensures { IfOk result (λ line. string_bytes line ≡ source_line id raised acknowledged delivered) }
 {
-    format!(in alloc; "summary\nsource {id}: raised {raised}, acknowledged {acknowledged}, delivered {delivered}, duplicate 0, dropped 0, panic 0\n")
+    format!(in alloc;
+        "summary\nsource {id}: raised {raised}, acknowledged {acknowledged}, delivered {delivered}, duplicate 0, dropped 0, panic 0\n"
+    )
 }
 
 // The summary's last line.

@@ -9,4 +9,4 @@ pub returns : goal.returns
 returns g c =
     let e = c.in-Err.ensures in
     rw c.load_refusal.ensures (table_not_loaded _ _ c.args.name.now c.in-Err.why
-      (record { failed = e.failed; too_long = e.too_long; names = e.names; contents = e.contents; grows = e.grows }))
+    (record { failed = e.failed; too_long = e.too_long; names = e.names; contents = e.contents; grows = e.grows }))

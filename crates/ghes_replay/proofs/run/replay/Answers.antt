@@ -11,7 +11,7 @@ replay_lines-requires-clause-first g c =
 pub returns-in-Ok : goal.returns-in-Ok
 returns-in-Ok g c =
     replay_goes _ _ _ c.args.hest.now c.args.script.now c.in_ok-ghes.ghes c.in-Ok.lines.items (replayed_of c.replay_lines.result)
-      c.in_ok-ghes.ensures c.in-Ok.ensures (rw c.deref.ensures.value at c.replay_lines.ensures)
+    c.in_ok-ghes.ensures c.in-Ok.ensures (rw c.deref.ensures.value at c.replay_lines.ensures)
 
 pub returns-in-Err : goal.returns-in-Err
 returns-in-Err g c =

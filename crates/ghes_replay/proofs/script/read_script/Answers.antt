@@ -8,7 +8,7 @@ use Rattle.ghes_replay.proofs.script.read_script.Goals as goal
 pub returns-in-None-clause-refused : goal.returns-in-None-clause-refused
 returns-in-None-clause-refused c =
     scans_bad c.args.id c.args.bytes.now c.loop-rest.lines.items _ c.loop-rest.rest.now c.first_line.result.0.now c.first_line.result.1.now
-      (omega arith) c.first_line.ensures.line (rw (c.in-None.is, c.in_ok-forms.ensures) at c.in_ok-what.ensures) c.loop-rest.invariant.1
+    (omega arith) c.first_line.ensures.line (rw (c.in-None.is, c.in_ok-forms.ensures) at c.in_ok-what.ensures) c.loop-rest.invariant.1
 
 pub loop-rest-preserved : goal.loop-rest-preserved
 loop-rest-preserved c =
@@ -17,7 +17,7 @@ loop-rest-preserved c =
     rw c.in_ok-push-in-Some.ensures.items (
       omega (arith, c.loop-rest.invariant.0),
       scans_more c.args.id c.args.bytes.now c.loop-rest.lines.items _ c.in-Some.what c.loop-rest.rest.now c.first_line.result.0.now c.first_line.result.1.now
-        (omega arith) c.first_line.ensures.line line c.loop-rest.invariant.1,
+          (omega arith) c.first_line.ensures.line line c.loop-rest.invariant.1,
     )
 
 pub returns-clause-found : goal.returns-clause-found

@@ -13,9 +13,9 @@ use Rattle.ghes_replay.proofs.script_run.run_script.Goals as goal
 
 pub loop-line-init : goal.loop-line-init
 loop-line-init c = (
-    omega (arith, ap length (ap (λ b. b.made) c.new-replay.ensures.blocks)),
-    runs_none _ _ _ c.new-replay.ensures.blocks c.new-replay.ensures.pending c.new-replay.ensures.ledger c.new-text.ensures.items,
-  )
+  omega (arith, ap length (ap (λ b. b.made) c.new-replay.ensures.blocks)),
+  runs_none _ _ _ c.new-replay.ensures.blocks c.new-replay.ensures.pending c.new-replay.ensures.ledger c.new-text.ensures.items,
+)
 
 pub loop-line-preserved : goal.loop-line-preserved
 loop-line-preserved c =
@@ -34,5 +34,5 @@ returns c =
     let whole : take c.loop-line.line-index lines ≡ lines = take_all _ lines c.loop-line-test.false in
     let R : List Line → Type 0 = λ done. Runs c.args.id done before c.loop-line.text.items in
     finishes c.args.id lines before c.run_end.new.replay c.loop-line.text.items c.run_end.new.text.items c.summary_text.new.into.items
-      (subst R whole c.loop-line.invariant.1) c.in_ok-run_end.ensures.replay c.in_ok-run_end.ensures.text
-      (rw (c.made-raised.ensures, c.acknowledged-acknowledged.ensures.value) at c.in_ok-summary_text.ensures)
+    (subst R whole c.loop-line.invariant.1) c.in_ok-run_end.ensures.replay c.in_ok-run_end.ensures.text
+    (rw (c.made-raised.ensures, c.acknowledged-acknowledged.ensures.value) at c.in_ok-summary_text.ensures)
