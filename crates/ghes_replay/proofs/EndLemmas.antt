@@ -1,19 +1,18 @@
 -- What is accepted is replayed, unless memory runs out.
-use Rattle.std.proofs.Common.{◌≡◌, ◌≤◌, ◌<◌, ◌⊎◌, ℕ, List, [], ◌∷◌, length, Option, Some, None, Result, Ok, Err, inl, inr, refl, sym, ap, subst, ◌∙◌, arith}
+use Rattle.std.proofs.Common.{◌≡◌, ◌≤◌, ◌<◌, ◌⊎◌, ℕ, List, [], ◌∷◌, length, Option, Some, Ok, inl, inr, refl, sym, ap, subst, ◌∙◌, arith}
 use Rattle.apei_hest.specs.Hest.{hest_of}
 use Rattle.apei_hest.specs.declared.source.Ghes.{Ghes}
 use Rattle.apei_hest.specs.declared.source.Source.TheVariants as sources
-use Rattle.ghes_outside.specs.Outside.{Rose, Agrees, IsLonger, Appends, AppendsFront}
+use Rattle.ghes_outside.specs.Outside.{Agrees, IsLonger}
 use Rattle.ghes_outside.specs.declared.files.LoadError.TheVariants as loads
 use Rattle.ghes_replay.specs.declared.exit.InputFile.TheVariants as files
 use Rattle.ghes_replay.specs.declared.exit.Refusal.{Refusal}
 use Rattle.ghes_replay.specs.declared.exit.Refusal.TheVariants as refusals
 use Rattle.ghes_replay.specs.Kept.{Kept}
-use Rattle.ghes_replay.specs.Refusal.{status_of, line_of}
-use Rattle.ghes_replay.specs.Script.{IsScript, IsRefusedAt}
+use Rattle.ghes_replay.specs.Refusal.{status_of}
+use Rattle.ghes_replay.specs.Script.{IsScript}
 use Rattle.ghes_replay.specs.Seen.{FilesSeen, SinkSeen, IsLoaded}
-use Rattle.ghes_replay.specs.Run.{IsReplay, Cause, WasPut, EndsBy, IsAccepted}
-use Rattle.ghes_replay.specs.Loading.{HasTable, TableCause, ScriptCause}
+use Rattle.ghes_replay.specs.Run.{IsReplay, Cause, EndsBy, IsAccepted}
 use Rattle.ghes_replay.proofs.OneReading.{not_both}
 
 -- the words name two files alone

@@ -1,12 +1,10 @@
 -- Facts on lists, packets and deliveries that know nothing of a replay.
-use Rattle.std.proofs.Common.{◌≡◌, ℕ, suc, zero, ◌+◌, ◌<◌, ◌≤◌, Bool, true, false, cond, List, [], ◌∷◌, ◌++◌, map, length, take, get_or, refl, sym, ap, ◌∙◌, arith, rules, add_assoc, append_assoc, append-nil, add-zero, zero-add, Option, Some, None}
-use Rattle.std.specs.Prelude.{slice_get}
-use Rattle.std.specs.List.{range_with_len, flat_map}
-use Rattle.std.proofs.lemmas.List.{map-append, length-append, take_more}
+use Rattle.std.proofs.Common.{◌≡◌, ℕ, suc, zero, ◌+◌, Bool, true, false, cond, List, [], ◌∷◌, ◌++◌, map, length, refl, ap, ◌∙◌, arith, add-zero, zero-add}
+use Rattle.std.specs.List.{range_with_len}
 use Rattle.ghes_replay.specs.declared.pending.Packet.{Packet}
-use Rattle.ghes_replay.specs.Kept.{delivery_of, report_of_packet}
+use Rattle.ghes_replay.specs.Kept.{report_of_packet}
 use Rattle.ghes_replay.specs.Execute.{deliveries}
-use Rattle.ghes_replay.specs.Lawful.{packet_of, report_of, report_number, packets_from, name_of}
+use Rattle.ghes_replay.specs.Lawful.{packet_of, report_of, report_number, packets_from}
 
 -- a choice between a list and nothing goes into `++`
 pub cond-append : {A : Type 0} (b : Bool) (xs ys : List A) → cond b xs [] ++ cond b ys [] ≡ cond b (xs ++ ys) []

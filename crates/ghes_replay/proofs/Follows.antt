@@ -1,5 +1,5 @@
 -- A state of a replay that a history leads to, and what holds of the two.
-use Rattle.std.proofs.Common.{◌≡◌, ℕ, ◌+◌, ◌≤◌, cond, eqb, List, [], ◌∷◌, ◌++◌, map, length, take, Option}
+use Rattle.std.proofs.Common.{◌≡◌, ℕ, ◌≤◌, cond, eqb, List, [], ◌++◌, map, length, take}
 use Rattle.std.specs.List.{range_with_len, AllByRecursion}
 use Rattle.ghes_replay.specs.declared.execute.Replay.{Replay}
 use Rattle.ghes_replay.specs.History.{Step, acts_in, calls_in, taken_in, marks_in, Each}

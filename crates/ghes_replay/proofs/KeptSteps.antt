@@ -1,6 +1,6 @@
 -- Each act keeps what holds of the state of a replay.
-use Rattle.std.proofs.Common.{◌≡◌, ℕ, suc, ◌+◌, ◌<◌, ◌≤◌, Bool, true, false, cond, eqb, List, [], ◌∷◌, ◌++◌, map, length, take, get_or, refl, sym, ap, ◌∙◌, arith, append_assoc, append-nil, Option, Some, None}
-use Rattle.std.specs.List.{range_with_len, flat_map}
+use Rattle.std.proofs.Common.{◌≡◌, ℕ, ◌+◌, ◌<◌, ◌≤◌, Bool, true, false, cond, eqb, List, [], ◌∷◌, ◌++◌, map, length, take, refl, sym, ap, ◌∙◌, arith, append_assoc, append-nil, Option, Some, None}
+use Rattle.std.specs.List.{range_with_len}
 use Rattle.std.proofs.lemmas.List.{map-append, length-append, length-map, length-take-le, take_more, take-append-le}
 use Rattle.std.proofs.lemmas.List.Concat.{flat_map-append}
 use Rattle.std.proofs.lemmas.Option.{slice_get_within, get_or_from_slice_get}
@@ -8,14 +8,13 @@ use Rattle.ghes_replay.specs.declared.execute.Replay.{Replay}
 use Rattle.ghes_replay.specs.declared.ledger.Outcome.{Outcome}
 use Rattle.ghes_replay.specs.declared.ledger.Outcome.TheVariants.{Nothing, Queued, NoSlot}
 use Rattle.ghes_replay.specs.declared.ledger.Call.{Call}
-use Rattle.ghes_replay.specs.declared.ledger.Taken.{Taken}
 use Rattle.ghes_replay.specs.declared.pending.Packet.{Packet}
-use Rattle.ghes_replay.specs.Call.{block_of, is_full, outcome_of, call_at}
+use Rattle.ghes_replay.specs.Call.{block_of, call_at}
 use Rattle.ghes_replay.specs.Kept.{report_of_packet}
 use Rattle.ghes_replay.specs.Execute.{deliveries, raised, called_by, worked, marked}
 use Rattle.ghes_replay.specs.Queue.{number_of, numbers_of}
 use Rattle.ghes_replay.specs.Lawful.{packet_of, report_of, report_number, packets_from, name_of, queued_names, taken_names}
-use Rattle.ghes_replay.proofs.Facts.{cond-append, cond_nil, range-add, range-push, packets_from-append, packets-deliveries, reports-deliveries, numbers-deliveries, length-deliveries}
+use Rattle.ghes_replay.proofs.Facts.{cond-append, range-add, range-push, packets_from-append, packets-deliveries, reports-deliveries, numbers-deliveries, length-deliveries}
 use Rattle.ghes_replay.proofs.Follows.{IsKept}
 
 -- one more call of source 0

@@ -1,18 +1,17 @@
 -- The ledger at the end of a replay is lawful.
-use Rattle.std.proofs.Common.{◌≡◌, ℕ, ◌+◌, Bool, true, false, cond, eqb, List, [], ◌∷◌, ◌++◌, map, length, take, refl, sym, ap, subst, ◌∙◌, append-nil, count_by}
-use Rattle.std.specs.List.{range_with_len, flat_map}
+use Rattle.std.proofs.Common.{◌≡◌, ℕ, ◌+◌, Bool, true, false, cond, eqb, List, [], ◌∷◌, ◌++◌, map, length, take, refl, sym, ap, ◌∙◌, append-nil, count_by}
+use Rattle.std.specs.List.{range_with_len}
 use Rattle.std.proofs.lemmas.Bool.{eqb-true}
 use Rattle.std.proofs.lemmas.List.{length-map}
 use Rattle.ghes_replay.specs.declared.execute.Replay.{Replay}
 use Rattle.ghes_replay.specs.declared.line.Line.{Line}
-use Rattle.ghes_replay.specs.declared.ledger.Call.{Call}
 use Rattle.ghes_replay.specs.declared.pending.Packet.{Packet}
-use Rattle.ghes_replay.specs.History.{Act, Step, acts_of, acts_in, Tells}
+use Rattle.ghes_replay.specs.History.{Step, acts_of, acts_in}
 use Rattle.ghes_replay.specs.Queue.{queue, numbers_of, acknowledged}
-use Rattle.ghes_replay.specs.Lawful.{packet_of, name_of, of_source, packets_from, taken_names, queued_names, IsLawful}
+use Rattle.ghes_replay.specs.Lawful.{packet_of, name_of, of_source, packets_from, taken_names, IsLawful}
 use Rattle.ghes_replay.specs.Text.{has_no_slot, source_line, totals_line, summary_text}
 use Rattle.ghes_replay.proofs.Facts.{cond-append, cond_nil, length-range}
-use Rattle.ghes_replay.proofs.Follows.{IsKept, IsTold, Follows}
+use Rattle.ghes_replay.proofs.Follows.{Follows}
 
 -- a list that counts from 1, or is empty, counts up to its length
 counts_up : (b : Bool) (n : ℕ) (xs : List ℕ) → xs ≡ cond b (range_with_len 1 n) [] → xs ≡ range_with_len 1 (length xs)

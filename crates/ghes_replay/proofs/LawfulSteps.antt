@@ -1,19 +1,17 @@
 -- Each act keeps the laws of steps.
-use Rattle.std.proofs.Common.{◌≡◌, ℕ, ◌+◌, ◌<◌, ◌≤◌, Bool, true, false, leb, List, [], ◌∷◌, ◌++◌, map, length, refl, sym, ap, subst, ◌∙◌, arith, append-nil, Option, Some, None}
+use Rattle.std.proofs.Common.{◌≡◌, ℕ, ◌+◌, ◌<◌, ◌≤◌, Bool, true, false, List, [], ◌∷◌, ◌++◌, map, length, refl, sym, ap, ◌∙◌, arith, append-nil, Option, Some, None}
 use Rattle.std.specs.Prelude.{slice_get, is_some}
-use Rattle.std.specs.List.{range_with_len}
 use Rattle.std.proofs.lemmas.List.{length-append, length-map}
 use Rattle.std.proofs.lemmas.Bool.{leb-true}
 use Rattle.std.proofs.lemmas.Option.{slice_get_within}
 use Rattle.ghes_replay.specs.declared.execute.Replay.{Replay}
-use Rattle.ghes_replay.specs.declared.line.What.{What}
 use Rattle.ghes_replay.specs.declared.line.What.TheVariants.{Raise, Nmi, Work}
 use Rattle.ghes_replay.specs.declared.ledger.Outcome.TheVariants.{Nothing, Queued, NoSlot}
 use Rattle.ghes_replay.specs.Call.{block_of, is_full, outcome_of, call_at}
-use Rattle.ghes_replay.specs.Execute.{deliveries, raised, called_by, worked, marked}
-use Rattle.ghes_replay.specs.History.{Act, Step, acts_in, calls_in, taken_in}
-use Rattle.ghes_replay.specs.Queue.{queue, numbers_of, acknowledged, standing}
-use Rattle.ghes_replay.specs.Lawful.{queued_names, taken_names, packet_of, name_of}
+use Rattle.ghes_replay.specs.Execute.{deliveries, worked, marked}
+use Rattle.ghes_replay.specs.History.{Step, acts_in, calls_in, taken_in}
+use Rattle.ghes_replay.specs.Queue.{queue, acknowledged, standing}
+use Rattle.ghes_replay.specs.Lawful.{queued_names, taken_names, name_of}
 use Rattle.ghes_replay.proofs.Facts.{length-range}
 use Rattle.ghes_replay.proofs.Follows.{IsKept, IsTold, AreLawfulSteps}
 

@@ -1,14 +1,13 @@
 -- What a failed load leaves, and how loads follow one another.
-use Rattle.std.proofs.Common.{◌≡◌, ◌≤◌, ◌+◌, ◌^◌, ◌-◌, ℕ, min, List, [], ◌∷◌, ◌++◌, Option, Some, None, Result, Ok, Err, refl, sym, ap, ◌∙◌, subst, arith, append-nil, append_assoc}
+use Rattle.std.proofs.Common.{◌≡◌, ◌≤◌, ℕ, List, [], ◌∷◌, ◌++◌, Option, Some, None, Result, Err, refl, sym, ap, ◌∙◌, arith, append-nil, append_assoc}
 use Rattle.std.specs.Option.{option_map}
 use Rattle.std.specs.List.{AllByRecursion}
 use Rattle.ghes_outside.specs.Outside.{Rose, IsLonger, names_after}
 use Rattle.ghes_outside.specs.declared.files.LoadError.{LoadError}
 use Rattle.ghes_outside.specs.declared.files.LoadError.TheVariants as loads
 use Rattle.apei_hest.specs.declared.source.Ghes.{Ghes}
-use Rattle.ghes_replay.specs.declared.exit.InputFile.{InputFile}
 use Rattle.ghes_replay.specs.declared.exit.InputFile.TheVariants as files
-use Rattle.ghes_replay.specs.Seen.{FilesSeen, AddsNames, Loads, table_limit, script_limit}
+use Rattle.ghes_replay.specs.Seen.{FilesSeen, Loads, table_limit, script_limit}
 use Rattle.ghes_replay.specs.Loading.{LoadsTable, LoadsScript, load_refusal}
 
 -- no new name

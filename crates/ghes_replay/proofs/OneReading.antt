@@ -2,7 +2,6 @@
 use Rattle.std.proofs.Common.{◌≡◌, ◌≢◌, ◌<◌, ℕ, ◌+◌, List, [], ◌∷◌, ◌++◌, length, ◌⊎◌, inl, inr, refl, sym, ap, subst, ◌∙◌, arith}
 use Rattle.std.specs.List.{AllByRecursion}
 use Rattle.ghes_replay.specs.declared.line.Line.{Line}
-use Rattle.ghes_replay.specs.declared.line.What.{What}
 use Rattle.ghes_replay.specs.Script.{IsLineOf, IsFirstLine, SpellsFrom, RefusesFrom}
 
 -- no byte is a line feed

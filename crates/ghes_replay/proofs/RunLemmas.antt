@@ -1,8 +1,8 @@
 -- A replay by its parts: the table, then the script, then its lines.
-use Rattle.std.proofs.Common.{◌≡◌, ◌≤◌, ◌<◌, ◌+◌, ◌^◌, ◌-◌, ◌⊎◌, ℕ, min, List, [], ◌∷◌, ◌++◌, Option, Result, Ok, Err, refl, sym, ap, ◌∙◌, subst, arith, inl, inr}
+use Rattle.std.proofs.Common.{◌≡◌, ◌≤◌, ◌+◌, ◌⊎◌, ℕ, List, [], ◌∷◌, ◌++◌, Option, Result, Ok, Err, ap, ◌∙◌, subst, arith, inl, inr}
 use Rattle.std.specs.Option.{option_map}
 use Rattle.std.specs.List.{AllByRecursion}
-use Rattle.ghes_outside.specs.Outside.{Rose, Agrees, IsLonger}
+use Rattle.ghes_outside.specs.Outside.{Agrees, IsLonger}
 use Rattle.ghes_outside.specs.declared.files.LoadError.TheVariants as loads
 use Rattle.apei_hest.specs.declared.source.Ghes.{Ghes}
 use Rattle.ghes_replay.specs.declared.line.Line.{Line}
@@ -13,8 +13,8 @@ use Rattle.ghes_replay.specs.declared.exit.Refusal.{Refusal}
 use Rattle.ghes_replay.specs.declared.exit.Refusal.TheVariants as refusals
 use Rattle.ghes_replay.specs.Kept.{Kept}
 use Rattle.ghes_replay.specs.Script.{IsLineOf, IsOfFirst, SpellsFrom}
-use Rattle.ghes_replay.specs.Seen.{FilesSeen, AddsNames, Loads, IsLoaded}
-use Rattle.ghes_replay.specs.Loading.{HasTable, HasScript, ScriptCause, LoadsTable, LoadsScript}
+use Rattle.ghes_replay.specs.Seen.{FilesSeen, Loads, IsLoaded}
+use Rattle.ghes_replay.specs.Loading.{HasTable, ScriptCause, LoadsTable, LoadsScript}
 use Rattle.ghes_replay.specs.Run.{ReplayCause, RunsLines, Replays}
 use Rattle.ghes_replay.proofs.LoadLemmas.{loads_weaker, loads_both}
 

@@ -6,20 +6,17 @@ use Rattle.ghes_replay.specs.declared.execute.Replay.{Replay}
 use Rattle.ghes_replay.specs.declared.line.Line.{Line}
 use Rattle.ghes_replay.specs.declared.line.What.{What}
 use Rattle.ghes_replay.specs.declared.line.What.TheVariants.{Raise, Nmi, Work}
-use Rattle.ghes_replay.specs.declared.ledger.Call.{Call}
-use Rattle.ghes_replay.specs.declared.ledger.Taken.{Taken}
 use Rattle.ghes_replay.specs.declared.pending.Packet.{Packet}
 use Rattle.ghes_replay.specs.Blocks.{Raised}
 use Rattle.ghes_replay.specs.Kept.{Kept}
 use Rattle.ghes_replay.specs.Call.{block_of, is_full}
 use Rattle.ghes_replay.specs.Execute.{executed, acted, called_by, step_of, calls_by, taken_by}
-use Rattle.ghes_replay.specs.History.{Act, Step, act_of, script_end, acts_of, acts_in}
-use Rattle.ghes_replay.specs.Lawful.{IsLawful}
+use Rattle.ghes_replay.specs.History.{Step, act_of, script_end, acts_of, acts_in}
 use Rattle.ghes_replay.specs.Script.{IsOfFirst}
 use Rattle.ghes_replay.specs.Text.{step_text, history_text}
 use Rattle.ghes_replay.proofs.Facts.{cond_nil}
 use Rattle.ghes_replay.proofs.Follows.{Follows}
-use Rattle.ghes_replay.proofs.FollowsStep.{follows_step, ActIsOfFirst}
+use Rattle.ghes_replay.proofs.FollowsStep.{follows_step}
 
 pub record Runs (id : ℕ) (done : List Line) (state : Replay) (text : List ℕ) : Type 0 where
   pub history : List Step

@@ -1,5 +1,5 @@
 -- A script that is read up to a line: whatever the rest spells completes the lines so far.
-use Rattle.std.proofs.Common.{◌≡◌, ℕ, ◌+◌, List, [], ◌∷◌, ◌++◌, length, refl, sym, ap, subst, ◌∙◌, arith, append_assoc, append-nil}
+use Rattle.std.proofs.Common.{◌≡◌, ℕ, ◌+◌, List, [], ◌∷◌, ◌++◌, length, sym, subst, append_assoc, append-nil}
 use Rattle.std.proofs.lemmas.List.{length_push}
 use Rattle.ghes_replay.specs.declared.line.Line.{Line}
 use Rattle.ghes_replay.specs.declared.line.What.{What}

@@ -1,5 +1,5 @@
 -- A command line of four words.
-use Rattle.std.proofs.Common.{◌≡◌, ◌<◌, ◌≤◌, ℕ, List, [], ◌∷◌, map, length, get_or, refl, sym, ap, ◌∙◌, arith, String, Global}
+use Rattle.std.proofs.Common.{◌≡◌, ◌<◌, ◌≤◌, ℕ, List, [], ◌∷◌, map, length, get_or, ap, ◌∙◌, arith, String, Global}
 use Rattle.std.specs.String.{string_bytes}
 
 -- four elements by their places

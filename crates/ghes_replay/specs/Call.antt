@@ -1,5 +1,5 @@
 -- One call of the receiver: its outcome, and what each outcome changes.
-use Rattle.std.specs.Prelude.{◌≡◌, ℕ, List, [], ◌∷◌, ◌++◌, length, nat_le, Bool, true, false, slice_get, Option, Some, None}
+use Rattle.std.specs.Prelude.{ℕ, List, [], ◌∷◌, ◌++◌, length, nat_le, Bool, true, false, slice_get, Option, Some, None}
 use Rattle.ghes_replay.specs.declared.ledger.Outcome.{Outcome}
 use Rattle.ghes_replay.specs.declared.ledger.Outcome.TheVariants.{Nothing, Queued, NoSlot}
 use Rattle.ghes_replay.specs.declared.ledger.AckState.TheVariants.{NotAsked}

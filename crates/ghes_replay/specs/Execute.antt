@@ -4,12 +4,9 @@ use Rattle.ghes_replay.specs.declared.execute.Replay.{Replay}
 use Rattle.ghes_replay.specs.declared.line.What.{What}
 use Rattle.ghes_replay.specs.declared.line.What.TheVariants.{Raise, Nmi, Work}
 use Rattle.ghes_replay.specs.declared.ledger.Outcome.{Outcome}
-use Rattle.ghes_replay.specs.declared.ledger.Outcome.TheVariants.{Nothing, Queued, NoSlot}
-use Rattle.ghes_replay.specs.declared.ledger.AckState.TheVariants.{NotAsked}
 use Rattle.ghes_replay.specs.declared.ledger.Call.{Call}
 use Rattle.ghes_replay.specs.declared.ledger.Taken.{Taken}
 use Rattle.ghes_replay.specs.declared.pending.Packet.{Packet}
-use Rattle.ghes_replay.specs.Blocks.{Raised}
 use Rattle.ghes_replay.specs.Call.{block_of, is_full, outcome_of, blocks_after, pending_after, call_at}
 use Rattle.ghes_replay.specs.Kept.{Kept, delivery_of, report_of_packet, mark_of}
 use Rattle.ghes_replay.specs.History.{Act, Step}

@@ -10,12 +10,11 @@ use Rattle.ghes_replay.specs.declared.ledger.Outcome.TheVariants.{Nothing, Queue
 use Rattle.ghes_replay.specs.declared.ledger.Call.{Call}
 use Rattle.ghes_replay.specs.declared.ledger.Taken.{Taken}
 use Rattle.ghes_replay.specs.declared.ledger.Taken.TheVariants.{Delivered}
-use Rattle.ghes_replay.specs.declared.ledger.Reported.{Reported}
 use Rattle.ghes_replay.specs.declared.ledger.Reported.TheVariants.{New}
 use Rattle.ghes_replay.specs.declared.ledger.Report.{Report}
 use Rattle.ghes_replay.specs.declared.pending.Packet.{Packet}
 use Rattle.ghes_replay.specs.Call.{call_at}
-use Rattle.ghes_replay.specs.History.{Act, Step, acts_of, acts_in, calls_in, taken_in, Each, Tells}
+use Rattle.ghes_replay.specs.History.{Step, acts_of, acts_in, calls_in, taken_in, Each, Tells}
 use Rattle.ghes_replay.specs.Kept.{Kept}
 use Rattle.ghes_replay.specs.Queue.{queue, number_of, numbers_of, acknowledged, standing}
 

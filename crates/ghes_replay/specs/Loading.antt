@@ -1,11 +1,9 @@
 -- What loading a table or a script answers, and why one is refused.
-use Rattle.std.specs.Prelude.{◌≡◌, ◌≤◌, ◌<◌, ◌⊎◌, ℕ, ◌^◌, List, [], ◌∷◌, ◌++◌, map, length, codes, Bool, ◌||◌, ◌==◌, Option, Some, None, Result, Ok, Err, IfOk, IfErr, OnOk}
-use Rattle.std.specs.Option.{option_map}
-use Rattle.std.specs.List.{AllByRecursion}
+use Rattle.std.specs.Prelude.{◌≡◌, ◌≤◌, ◌<◌, ℕ, ◌^◌, List, [], ◌∷◌, length, Result, Ok, Err, IfOk, IfErr, OnOk}
 use Rattle.apei_hest.specs.Hest.{hest_of}
 use Rattle.apei_hest.specs.declared.source.Ghes.{Ghes}
 use Rattle.apei_hest.specs.declared.source.Source.TheVariants as sources
-use Rattle.ghes_outside.specs.Outside.{Rose, Agrees, IsLonger, Appends, AppendsFront}
+use Rattle.ghes_outside.specs.Outside.{Rose, IsLonger}
 use Rattle.ghes_outside.specs.declared.files.LoadError.{LoadError}
 use Rattle.ghes_outside.specs.declared.files.LoadError.TheVariants as loads
 use Rattle.ghes_replay.specs.declared.line.Line.{Line}
@@ -13,12 +11,7 @@ use Rattle.ghes_replay.specs.declared.exit.InputFile.{InputFile}
 use Rattle.ghes_replay.specs.declared.exit.InputFile.TheVariants as files
 use Rattle.ghes_replay.specs.declared.exit.Refusal.{Refusal}
 use Rattle.ghes_replay.specs.declared.exit.Refusal.TheVariants as refusals
-use Rattle.ghes_replay.specs.History.{Step}
-use Rattle.ghes_replay.specs.Kept.{Kept}
-use Rattle.ghes_replay.specs.Lawful.{IsLawful}
-use Rattle.ghes_replay.specs.Refusal.{status_of, line_of}
 use Rattle.ghes_replay.specs.Script.{IsScript, IsRefusedAt}
-use Rattle.ghes_replay.specs.Text.{replay_text}
 use Rattle.ghes_replay.specs.Seen.{FilesSeen, table_limit, script_limit, AddsNames, Loads, IsLoaded}
 
 -- a file has an accepted table with this source

@@ -1,15 +1,10 @@
 -- What a run of the program promises: its text, and the cause of each refusal.
-use Rattle.std.specs.Prelude.{◌≡◌, ◌≤◌, ◌<◌, ◌⊎◌, ℕ, ◌^◌, List, [], ◌∷◌, ◌++◌, map, length, codes, Bool, ◌||◌, ◌==◌, Option, Some, None, Result, Ok, Err, IfOk, IfErr, OnOk}
-use Rattle.std.specs.Option.{option_map}
-use Rattle.std.specs.List.{AllByRecursion}
+use Rattle.std.specs.Prelude.{◌≡◌, ◌≤◌, ◌⊎◌, ℕ, List, [], ◌∷◌, length, codes, Bool, ◌||◌, ◌==◌, Option, Some, None, Result, Ok, Err, IfOk, IfErr}
 use Rattle.apei_hest.specs.Hest.{hest_of}
 use Rattle.apei_hest.specs.declared.source.Ghes.{Ghes}
 use Rattle.apei_hest.specs.declared.source.Source.TheVariants as sources
-use Rattle.ghes_outside.specs.Outside.{Rose, Agrees, IsLonger, Appends, AppendsFront}
-use Rattle.ghes_outside.specs.declared.files.LoadError.{LoadError}
-use Rattle.ghes_outside.specs.declared.files.LoadError.TheVariants as loads
+use Rattle.ghes_outside.specs.Outside.{Rose, Appends, AppendsFront}
 use Rattle.ghes_replay.specs.declared.line.Line.{Line}
-use Rattle.ghes_replay.specs.declared.exit.InputFile.{InputFile}
 use Rattle.ghes_replay.specs.declared.exit.InputFile.TheVariants as files
 use Rattle.ghes_replay.specs.declared.exit.Refusal.{Refusal}
 use Rattle.ghes_replay.specs.declared.exit.Refusal.TheVariants as refusals
@@ -17,7 +12,7 @@ use Rattle.ghes_replay.specs.History.{Step}
 use Rattle.ghes_replay.specs.Kept.{Kept}
 use Rattle.ghes_replay.specs.Lawful.{IsLawful}
 use Rattle.ghes_replay.specs.Refusal.{status_of, line_of}
-use Rattle.ghes_replay.specs.Script.{IsScript, IsRefusedAt}
+use Rattle.ghes_replay.specs.Script.{IsScript}
 use Rattle.ghes_replay.specs.Text.{replay_text}
 use Rattle.ghes_replay.specs.Seen.{FilesSeen, SinkSeen, table_limit, script_limit, Loads}
 use Rattle.ghes_replay.specs.Loading.{HasTable, HasScript, TableCause, ScriptCause}

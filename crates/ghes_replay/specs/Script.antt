@@ -1,5 +1,5 @@
 -- The script of one source: its lines, what each says, and which line is refused first (own choice).
-use Rattle.std.specs.Prelude.{◌≡◌, ◌≢◌, ◌<◌, ℕ, ◌+◌, Bool, not, ◌&&◌, ◌==◌, nat_le, IsTrue, List, [], ◌∷◌, ◌++◌, length, drop, codes, ◌⊎◌, Result, Ok, true}
+use Rattle.std.specs.Prelude.{◌≡◌, ◌≢◌, ◌<◌, ℕ, ◌+◌, List, [], ◌∷◌, ◌++◌, length, codes, ◌⊎◌, Ok, true}
 use Rattle.std.specs.List.{AllByRecursion}
 use Rattle.hex.specs.Hex.{decode_of}
 use Rattle.ghes_replay.specs.Spelling.{is_bare, nmi_line, raise_front}

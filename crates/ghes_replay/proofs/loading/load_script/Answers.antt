@@ -1,8 +1,5 @@
 -- Where the load failed, its clauses say why, and what it leaves.
-use Rattle.ghes_replay.specs.Seen.{files_seen}
-use Rattle.ghes_replay.specs.Loading.{LoadsScript}
 use Rattle.ghes_replay.proofs.LoadLemmas.{script_not_loaded}
-use Rattle.std.proofs.Common.{sym, subst, Err}
 use Rattle.ghes_replay.proofs.loading.load_script.Goals as goal
 
 pub returns : goal.returns

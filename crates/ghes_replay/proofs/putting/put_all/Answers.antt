@@ -1,5 +1,5 @@
 -- What was put so far, and the next piece.
-use Rattle.std.proofs.Common.{◌≡◌, ◌++◌, ◌≤◌, sym, ap, ◌∙◌, arith, append_assoc}
+use Rattle.std.proofs.Common.{◌≡◌, ◌++◌, sym, ap, ◌∙◌, arith, append_assoc}
 use Rattle.std.proofs.lemmas.List.{take-append-drop}
 use Rattle.ghes_replay.proofs.PutLemmas.{appends_both, front_of_text, on_err}
 use Rattle.ghes_replay.proofs.putting.put_all.Goals as goal

@@ -1,6 +1,5 @@
 -- The four words, by their places.
-use Rattle.std.proofs.Common.{◌≡◌, ℕ, List, [], ◌∷◌, map, rules, sym, ap, ◌∙◌, codes, Global}
-use Rattle.std.specs.String.{string_bytes}
+use Rattle.std.proofs.Common.{◌≡◌, rules, sym, ◌∙◌, codes}
 use Rattle.ghes_replay.proofs.WordLemmas.{four_items, four_words}
 use Rattle.ghes_replay.proofs.run.replay_names.Goals as goal
 

@@ -1,5 +1,5 @@
 -- The front of the line is there or not, and the digits behind it decide.
-use Rattle.std.proofs.Common.{◌∙◌, IfOk}
+use Rattle.std.proofs.Common.{◌∙◌}
 use Rattle.std.proofs.lemmas.Bool.Decides.{Decides-eqb}
 use Rattle.std.proofs.lemmas.Slice.Eq.{strip_prefix_is}
 use Rattle.std.proofs.lemmas.Result.{IfOk-weaker}

@@ -1,8 +1,8 @@
 -- Each line that is read completes the lines so far, and one that asks for nothing is the first such line.
-use Rattle.std.proofs.Common.{◌≡◌, ◌+◌, [], ◌∷◌, ◌++◌, length, arith, ap, sym, ◌∙◌}
+use Rattle.std.proofs.Common.{◌≡◌, ◌+◌, [], ◌∷◌, ◌++◌, length, arith, sym, ◌∙◌}
 use Rattle.std.proofs.lemmas.Bool.{eqb-true}
 use Rattle.std.proofs.lemmas.List.{nil_from_length, length_push}
-use Rattle.ghes_replay.proofs.Scanning.{scans_none, scans_more, scans_end, scans_bad}
+use Rattle.ghes_replay.proofs.Scanning.{scans_more, scans_end, scans_bad}
 use Rattle.ghes_replay.proofs.script.read_script.Goals as goal
 
 pub returns-in-None-clause-refused : goal.returns-in-None-clause-refused

@@ -1,12 +1,9 @@
 -- The history of the lines so far goes on line by line, and its end is lawful.
-use Rattle.std.proofs.Common.{◌≡◌, ◌<◌, ◌≤◌, ◌+◌, ◌++◌, take, length, refl, sym, ap, ◌∙◌, subst, arith, List, Some}
+use Rattle.std.proofs.Common.{◌≡◌, ◌≤◌, ◌+◌, take, length, ap, subst, arith, List, Some}
 use Rattle.std.proofs.lemmas.List.{take_all}
-use Rattle.ghes_replay.specs.declared.execute.Replay.{Replay}
 use Rattle.ghes_replay.specs.declared.line.Line.{Line}
 use Rattle.ghes_replay.specs.Execute.{executed}
-use Rattle.ghes_replay.specs.History.{script_end, act_of}
-use Rattle.ghes_replay.specs.Text.{history_text, replay_text}
-use Rattle.ghes_replay.specs.Lawful.{IsLawful}
+use Rattle.ghes_replay.specs.History.{act_of}
 use Rattle.ghes_replay.proofs.Finishing.{finishes}
 use Rattle.ghes_replay.proofs.Running.{Runs, runs_none, runs_more, made_grows}
 use Rattle.ghes_replay.proofs.script_run.run_script.Goals as goal

@@ -1,4 +1,4 @@
-use Rattle.std.proofs.Common.{◌≡◌, ◌≤◌, length, take}
+use Rattle.std.proofs.Common.{◌≤◌, length, take}
 use Rattle.ghes_replay.proofs.Running.{Runs}
 use Rattle.ghes_replay.proofs.script_run.run_script.Given as goal
 
