@@ -1,5 +1,6 @@
 pub mod EndLemmas
 pub mod Facts
+pub mod FateLemmas
 pub mod Finishing
 pub mod Follows
 pub mod FollowsStep
@@ -8,6 +9,7 @@ pub mod LawfulEnd
 pub mod LawfulSteps
 pub mod LineLemmas
 pub mod LoadLemmas
+pub mod OneHistory
 pub mod OneReading
 pub mod PutLemmas
 pub mod RunLemmas

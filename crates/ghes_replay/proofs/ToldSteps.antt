@@ -19,7 +19,7 @@ mark_pushed : (line : ℕ) (marks marks' : List Mark) (calls calls' : List Call)
 mark_pushed line marks marks' calls calls' taken taken' same_marks same_calls same_taken = cc
 
 -- one more act
-queue-push : (s : ℕ) (acts : List Act) (act : Act) → queue s (acts ++ act ∷ []) ≡ queue s acts ++ raised_by s act.what
+pub queue-push : (s : ℕ) (acts : List Act) (act : Act) → queue s (acts ++ act ∷ []) ≡ queue s acts ++ raised_by s act.what
 queue-push s acts act = flat_map-append _ acts _ ∙ ap (λ rest. queue s acts ++ rest) (append-nil _)
 
 -- an act that makes no block

@@ -1,6 +1,7 @@
 -- What a run of the program promises: its text, and the cause of each refusal.
 use Rattle.std.specs.Prelude.{◌≡◌, ◌≤◌, ◌⊎◌, ℕ, List, [], ◌∷◌, length, codes, Bool, ◌||◌, ◌==◌, Option, Some, None, Result, Ok, Err, IfOk, IfErr}
 use Rattle.apei_hest.specs.Hest.{hest_of}
+use Rattle.apei_hest.specs.declared.error.HestError.{HestError}
 use Rattle.apei_hest.specs.declared.source.Ghes.{Ghes}
 use Rattle.apei_hest.specs.declared.source.Source.TheVariants as sources
 use Rattle.ghes_outside.specs.Outside.{Rose, Appends, AppendsFront}
@@ -12,7 +13,7 @@ use Rattle.ghes_replay.specs.History.{Step}
 use Rattle.ghes_replay.specs.Kept.{Kept}
 use Rattle.ghes_replay.specs.Lawful.{IsLawful}
 use Rattle.ghes_replay.specs.Refusal.{status_of, line_of}
-use Rattle.ghes_replay.specs.Script.{IsScript}
+use Rattle.ghes_replay.specs.Script.{IsScript, IsRefusedAt}
 use Rattle.ghes_replay.specs.Text.{replay_text}
 use Rattle.ghes_replay.specs.Seen.{FilesSeen, SinkSeen, table_limit, script_limit, Loads}
 use Rattle.ghes_replay.specs.Loading.{HasTable, HasScript, TableCause, ScriptCause}
@@ -121,3 +122,37 @@ pub record IsAccepted (words : List (List ℕ)) (before after : FilesSeen) (sink
   pub spelled : IsScript ghes.id script_bytes lines
   pub no_failed_load : Rose before.faults after.faults → ⊥
   pub no_failed_put : Rose sink_before.faults sink_after.faults → ⊥
+
+-- The words are a replay whose table is told, within its limit and refused, and no load failed.
+pub record HasBadTable (words : List (List ℕ)) (before after : FilesSeen) : Type 0 where
+  pub hest : List ℕ
+  pub script : List ℕ
+  pub replay : IsReplay words hest script
+  pub bytes : List ℕ
+  pub told : before.contents hest ≡ Some bytes
+  pub within : length bytes ≤ table_limit
+  pub error : HestError
+  pub refused : hest_of bytes ≡ Err error
+  pub no_failed_load : Rose before.faults after.faults → ⊥
+
+-- The words are a replay whose table is accepted and whose script is refused, both told and within their limits,
+-- and no load failed.
+pub record HasBadScript (words : List (List ℕ)) (before after : FilesSeen) : Type 0 where
+  pub hest : List ℕ
+  pub script : List ℕ
+  pub replay : IsReplay words hest script
+  pub table_bytes : List ℕ
+  pub table_told : before.contents hest ≡ Some table_bytes
+  pub ghes : Ghes
+  pub table_within : length table_bytes ≤ table_limit
+  pub table : hest_of table_bytes ≡ Ok (sources.Ghes ghes ∷ [])
+  pub script_bytes : List ℕ
+  pub script_told : before.contents script ≡ Some script_bytes
+  pub script_within : length script_bytes ≤ script_limit
+  pub at : ℕ
+  pub refused : IsRefusedAt ghes.id script_bytes at
+  pub no_failed_load : Rose before.faults after.faults → ⊥
+
+-- a status, unless the output failed or memory ran out
+abbrev pub IsUnlessFault : ℕ → ℕ → Type 0
+IsUnlessFault status expected = (status ≡ expected) ⊎ ((status ≡ 6) ⊎ (status ≡ 7))

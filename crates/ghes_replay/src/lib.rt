@@ -6,6 +6,7 @@ mod call;
 mod execute;
 mod exit;
 mod forms;
+mod laws;
 mod ledger;
 mod line;
 mod loading;
@@ -14,9 +15,12 @@ mod putting;
 mod run;
 mod script;
 mod script_run;
+#[cfg(test)]
+mod tests;
 mod text;
 
 pub use exit::{InputFile, Refusal};
+pub use laws::{a_ledger_tells_one_history, a_script_is_read_in_one_way, each_block_has_one_fate};
 pub use ledger::{AckState, Call, Ledger, Mark, Outcome, Reply, Report, Reported, Taken};
 pub use line::{Line, What};
 pub use pending::Packet;

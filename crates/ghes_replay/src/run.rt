@@ -2,7 +2,7 @@ ghost use Rattle.std.specs.Prelude.{◌≡◌, ◌<◌, ◌^◌, ◌⊎◌, IsTr
 ghost use Rattle.std.specs.List.{AllByRecursion};
 ghost use Rattle.std.specs.String.{string_bytes};
 ghost use Rattle.ghes_replay.specs.Seen.{files_seen, sink_seen, Loads};
-ghost use Rattle.ghes_replay.specs.Run.{IsReplay, RunsLines, Replays, Answers, IsFileWord, EndsBy, PutsText, IsAccepted, is_status};
+ghost use Rattle.ghes_replay.specs.Run.{IsReplay, RunsLines, Replays, Answers, IsFileWord, EndsBy, PutsText, IsAccepted, is_status, HasBadTable, HasBadScript, IsUnlessFault};
 ghost use Rattle.ghes_outside.specs.Outside.{Rose};
 ghost use Rattle.ghes_replay.specs.Script.{IsOfFirst};
 ghost use Rattle.ghes_replay.specs.Views.{replayed_of};
@@ -131,6 +131,16 @@ pub fn ghes_run<F: Files, K: Sink>(
     ensures loads { Loads (IsFileWord (map string_bytes words.now))
         (files_seen (F.contents files.old) (F.failed files.old) (F.faults files.old))
         (files_seen (F.contents files.new) (F.failed files.new) (F.faults files.new)) }
+    // Words that are no replay, a refused table and a refused script get their status, unless the output fails or
+    // memory runs out.
+    ensures bad_words { ((hest script : List ℕ) → IsReplay (map string_bytes words.now) hest script → ⊥)
+        → IsUnlessFault result.status 2 }
+    ensures bad_table { HasBadTable (map string_bytes words.now)
+        (files_seen (F.contents files.old) (F.failed files.old) (F.faults files.old))
+        (files_seen (F.contents files.new) (F.failed files.new) (F.faults files.new)) → IsUnlessFault result.status 3 }
+    ensures bad_script { HasBadScript (map string_bytes words.now)
+        (files_seen (F.contents files.old) (F.failed files.old) (F.faults files.old))
+        (files_seen (F.contents files.new) (F.failed files.new) (F.faults files.new)) → IsUnlessFault result.status 4 }
     // What is accepted is replayed, unless memory runs out.
     ensures complete { IsAccepted (map string_bytes words.now)
         (files_seen (F.contents files.old) (F.failed files.old) (F.faults files.old))

@@ -1,0 +1,42 @@
+#!/usr/bin/env bash
+# How the built program meets real files and a full device: run by hand, checks/host.sh. It stands outside the gate.
+set -u
+top=$(cd "$(dirname "$0")/.." && pwd)
+data=$top/crates/ghes/data
+folder=$(mktemp -d)
+trap 'rm -rf "$folder"' EXIT
+failures=0
+# expect NAME STATUS LINE WORDS..: the program ends with the status, and its first line is this.
+expect() {
+  local name=$1 status=$2 line=$3
+  shift 3
+  local out got
+  out=$("$top/ghes" "$@" 2>/dev/null)
+  got=$?
+  if [ "$got" -ne "$status" ] || [ "$(printf '%s\n' "$out" | head -n 1)" != "$line" ]; then
+    echo "FAILED $name: status $got, first line: $(printf '%s\n' "$out" | head -n 1)"
+    failures=$((failures + 1))
+  else
+    echo "ok $name"
+  fi
+}
+expect "the stored example" 0 "nmi 1: queued 1" replay "$data/hest.bin" - "$data/script"
+expect "a missing file" 5 "ghes: read $folder/none: 1 failed" replay "$folder/none" - "$data/script"
+expect "a folder" 5 "ghes: read $folder: 1 failed" replay "$folder" - "$data/script"
+expect "a file of the kernel, whose size says nothing" 3 "ghes: hest: 1 table: 2 signature" replay /proc/version - "$data/script"
+expect "no words" 2 "ghes: usage: replay HEST EINJ SCRIPT | check HEST EINJ | decode BLOCK | load N"
+cp "$data/hest.bin" "$folder/secret" && chmod 000 "$folder/secret"
+if [ -r "$folder/secret" ]; then
+  echo "skipped an unreadable file: this user reads all files"
+else
+  expect "an unreadable file" 5 "ghes: read $folder/secret: 1 failed" replay "$folder/secret" - "$data/script"
+fi
+if [ -c /dev/full ]; then
+  "$top/ghes" replay "$data/hest.bin" - "$data/script" >/dev/full 2>/dev/null
+  if [ $? -eq 6 ]; then echo "ok a full device"; else echo "FAILED a full device"; failures=$((failures + 1)); fi
+else
+  echo "skipped a full device: there is no /dev/full"
+fi
+head -c 1048577 /dev/zero >"$folder/long"
+expect "a table one byte past its limit" 5 "ghes: read $folder/long: 2 too long" replay "$folder/long" - "$data/script"
+exit "$((failures > 0))"

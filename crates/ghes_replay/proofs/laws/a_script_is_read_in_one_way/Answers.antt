@@ -1,0 +1,8 @@
+use Rattle.ghes_replay.proofs.OneReading.{same_lines, not_both}
+use Rattle.ghes_replay.proofs.laws.a_script_is_read_in_one_way.Goals as goal
+
+pub returns-clause-same : goal.returns-clause-same
+returns-clause-same c = λ id bytes first second. same_lines id 1 bytes first second
+
+pub returns-clause-not_refused : goal.returns-clause-not_refused
+returns-clause-not_refused c = λ id bytes lines at script refused. not_both id 1 bytes lines refused.0 at script refused.1
