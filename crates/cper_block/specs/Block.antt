@@ -1,0 +1,48 @@
+-- A whole error status block: its parts, and why bytes are none (ACPI 6.5, 18.3.2.7.1).
+use Rattle.std.specs.Prelude.{◌≡◌, ℕ, min, ◌==◌, nat_lt, if◌then◌else◌, List, [], ◌++◌, length, take, drop, Option, Some, None}
+use Rattle.std.specs.List.{flat_map, AllByRecursion}
+use Rattle.cper_block.specs.Header.{header_of, header_reason}
+use Rattle.cper_block.specs.Cut.{IsEntry, Walks}
+use Rattle.cper_block.specs.declared.header.Header.{Header}
+use Rattle.cper_block.specs.declared.malformed.Malformed.{Malformed}
+use Rattle.cper_block.specs.declared.malformed.Malformed.TheVariants.{TooShort}
+
+-- a block's header, the bytes of its entries, and its raw data
+pub record Parts : Type 0 where
+  pub header : Header
+  pub entries : List ℕ
+  pub raw : List ℕ
+
+-- the bytes of the entries, behind the header
+abbrev pub data_of : List ℕ → List ℕ
+data_of bytes = take (header_of bytes).length (drop 20 bytes)
+
+-- the raw data
+abbrev pub raw_of : List ℕ → List ℕ
+raw_of bytes = if (header_of bytes).raw_length == 0 then [] else take (header_of bytes).raw_length (drop (header_of bytes).raw_offset bytes)
+
+-- why the front of the bytes makes them no block under a limit: there is no header, or the header alone says so
+abbrev pub front_reason : List ℕ → ℕ → Option Malformed
+front_reason bytes limit =
+    if nat_lt (length bytes) 20 then Some TooShort else header_reason (header_of bytes) (min (length bytes) limit)
+
+-- the reason of the front, where it has one, and else that of the entries
+abbrev pub JudgedBy : Option Malformed → List ℕ → Option Malformed → Type 0
+JudgedBy (Some reason) entries answer = answer ≡ Some reason
+JudgedBy None entries answer = Walks entries answer
+
+-- why bytes are no well-formed block under a limit, if they are none
+abbrev pub Judges : List ℕ → ℕ → Option Malformed → Type 0
+Judges bytes limit answer = JudgedBy (front_reason bytes limit) (data_of bytes) answer
+
+-- The bytes are a well-formed block with these entries: they are a header, the entries, a gap and the raw data, one
+-- behind the other, of the lengths that the header states; there is no gap without raw data.
+pub record IsJoined (bytes : List ℕ) (entries : List (List ℕ)) : Type 0 where
+  pub header : List ℕ
+  pub gap : List ℕ
+  pub raw : List ℕ
+  pub whole : bytes ≡ header ++ (flat_map (λ entry. entry) entries ++ (gap ++ raw))
+  pub header_is : length header ≡ 20
+  pub each : AllByRecursion IsEntry entries
+  pub data_length : length (flat_map (λ entry. entry) entries) ≡ (header_of bytes).length
+  pub raw_length : length raw ≡ (header_of bytes).raw_length

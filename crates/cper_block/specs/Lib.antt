@@ -1,0 +1,6 @@
+pub mod Block
+pub mod Cut
+pub mod Entry
+pub mod Header
+pub mod Severity
+pub mod Text

@@ -1,0 +1,79 @@
+ghost use Rattle.std.specs.Prelude.{◌≡◌, IfOk};
+ghost use Rattle.std.specs.Result.{result_err};
+
+use crate::{Malformed, Severity};
+use byteorder::{ByteOrder, LittleEndian};
+
+/// The header of an error status block.
+///
+/// Offsets and lengths are in bytes, offsets from the start of the block. Source: ACPI 6.5, 18.3.2.7.1.
+#[derive(Clone, Copy, Debug, PartialEq, Eq)]
+pub struct Header {
+    /// The block status: which kinds of error there are, and how many entries. 0 where no block stands.
+    pub status: u32,
+    pub raw_offset: u32,
+    pub raw_length: u32,
+    /// Of all data entries together.
+    pub length: u32,
+    /// The code of the severity.
+    pub severity: u32,
+}
+
+impl Header {
+    ghost use Rattle.cper_block.specs.Header.{header_of, block_length, header_reason};
+    ghost use Rattle.cper_block.specs.Severity.{severity_of};
+
+    /// Reads the header.
+    pub fn read(bytes: &[u8; 20]) -> Header
+        ensures { result ≡ header_of bytes.now }
+    {
+        Header {
+            status: LittleEndian::read_u32(bytes.as_slice()),
+            raw_offset: LittleEndian::read_u32(&bytes[4..]),
+            raw_length: LittleEndian::read_u32(&bytes[8..]),
+            length: LittleEndian::read_u32(&bytes[12..]),
+            severity: LittleEndian::read_u32(&bytes[16..]),
+        }
+    }
+
+    // How long the block is, in bytes.
+    fn block_length(&self) -> u64
+        ensures { result ≡ block_length self.now }
+    {
+        if self.raw_length == 0 {
+            20 + u64::from(self.length)
+        } else {
+            u64::from(self.raw_offset) + u64::from(self.raw_length)
+        }
+    }
+
+    /// The length of the block in bytes, by its header alone, where a block may have `limit` bytes.
+    ///
+    /// The reasons are tested in the order of `Malformed`, up to `RawOffset`.
+    pub fn check(&self, limit: u32) -> Result<u32, Malformed>
+        ensures err { result_err result ≡ header_reason self.now limit }
+        ensures length { IfOk result (λ length. length ≡ block_length self.now) }
+    {
+        let length = self.block_length();
+        if length < 20 {
+            return Err(Malformed::TooShort);
+        }
+        if length > u64::from(limit) {
+            return Err(Malformed::TooLong);
+        }
+        if 0 < self.length && self.length < 64 {
+            return Err(Malformed::DataLength);
+        }
+        if self.raw_length != 0 && u64::from(self.raw_offset) < 20 + u64::from(self.length) {
+            return Err(Malformed::RawOffset);
+        }
+        Ok(length as u32)
+    }
+
+    /// How bad the error is.
+    pub fn severity(&self) -> Severity
+        ensures { result ≡ severity_of self.now.severity }
+    {
+        Severity::from(self.severity)
+    }
+}
