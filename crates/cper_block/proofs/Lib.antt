@@ -1,3 +1,5 @@
 pub mod BlockLemmas
 pub mod CutLemmas
 pub mod EntryLemmas
+pub mod LawLemmas
+pub mod PartLemmas

@@ -1,5 +1,5 @@
 -- A whole error status block: its parts, and why bytes are none (ACPI 6.5, 18.3.2.7.1).
-use Rattle.std.specs.Prelude.{◌≡◌, ℕ, min, ◌==◌, nat_lt, if◌then◌else◌, List, [], ◌++◌, length, take, drop, Option, Some, None}
+use Rattle.std.specs.Prelude.{◌≡◌, ◌<◌, ◌+◌, ℕ, min, ◌==◌, nat_lt, if◌then◌else◌, List, [], ◌++◌, length, take, drop, Option, Some, None}
 use Rattle.std.specs.List.{flat_map, AllByRecursion}
 use Rattle.cper_block.specs.Header.{header_of, header_reason}
 use Rattle.cper_block.specs.Cut.{IsEntry, Walks}
@@ -35,14 +35,16 @@ JudgedBy None entries answer = Walks entries answer
 abbrev pub Judges : List ℕ → ℕ → Option Malformed → Type 0
 Judges bytes limit answer = JudgedBy (front_reason bytes limit) (data_of bytes) answer
 
--- The bytes are a well-formed block with these entries: they are a header, the entries, a gap and the raw data, one
--- behind the other, of the lengths that the header states; there is no gap without raw data.
-pub record IsJoined (bytes : List ℕ) (entries : List (List ℕ)) : Type 0 where
-  pub header : List ℕ
+-- The bytes are a block of this header with these entries: the header's 20 bytes, the entries, a gap and the raw
+-- data, one behind the other, as long as the header states and where it states; there is no gap without raw data.
+pub record IsJoined (header : Header) (block : List ℕ) (entries : List (List ℕ)) : Type 0 where
+  pub front : List ℕ
   pub gap : List ℕ
   pub raw : List ℕ
-  pub whole : bytes ≡ header ++ (flat_map (λ entry. entry) entries ++ (gap ++ raw))
-  pub header_is : length header ≡ 20
+  pub whole : block ≡ front ++ (flat_map (λ entry. entry) entries ++ (gap ++ raw))
+  pub front_length : length front ≡ 20
   pub each : AllByRecursion IsEntry entries
-  pub data_length : length (flat_map (λ entry. entry) entries) ≡ (header_of bytes).length
-  pub raw_length : length raw ≡ (header_of bytes).raw_length
+  pub data_length : length (flat_map (λ entry. entry) entries) ≡ header.length
+  pub raw_length : length raw ≡ header.raw_length
+  pub raw_offset : 0 < header.raw_length → 20 + header.length + length gap ≡ header.raw_offset
+  pub no_gap : header.raw_length ≡ 0 → gap ≡ []

@@ -5,6 +5,7 @@ mod block;
 mod entries;
 mod entry;
 mod header;
+mod laws;
 mod malformed;
 mod severity;
 
@@ -12,5 +13,8 @@ pub use block::Block;
 pub use entries::Entries;
 pub use entry::DataEntry;
 pub use header::Header;
+pub use laws::{
+    a_block_is_its_parts, bytes_are_judged_in_one_way, the_entries_are_those_of_the_cut,
+};
 pub use malformed::Malformed;
 pub use severity::Severity;
