@@ -4,7 +4,7 @@ use Rattle.std.specs.List.{range_with_len, AllByRecursion}
 use Rattle.ghes_replay.specs.declared.execute.Replay.{Replay}
 use Rattle.ghes_replay.specs.History.{Step, acts_in, calls_in, taken_in, marks_in, Each}
 use Rattle.ghes_replay.specs.Queue.{queue, numbers_of}
-use Rattle.ghes_replay.specs.Lawful.{packet_of, report_of, report_number, packets_from, name_of, queued_names, taken_names, AreCallsOf, WasMade, StandsOrNot, WasFull, Drains}
+use Rattle.ghes_replay.specs.Lawful.{packet_of, report_of, report_number, packets_from, name_of, queued_names, taken_names, AreCallsOf, WasMade, StandsOrNot, FitsSlots, Drains}
 
 -- what holds of the state alone: where each block is
 pub record IsKept (state : Replay) : Type 0 where
@@ -27,7 +27,7 @@ pub record AreLawfulSteps (history : List Step) : Type 0 where
   pub calls : Each (λ before step. AreCallsOf step.act.what step.calls) history
   pub made : Each (λ before step. AllByRecursion (WasMade before) step.calls) history
   pub other_outcomes : Each (λ before step. AllByRecursion (λ call. StandsOrNot before call.source call.reply.outcome) step.calls) history
-  pub no_slot : Each (λ before step. AllByRecursion (λ call. WasFull before call.reply.outcome) step.calls) history
+  pub no_slot : Each (λ before step. AllByRecursion (λ call. FitsSlots before call.reply.outcome) step.calls) history
   pub drained : Each (λ before step. Drains before step step.act.what) history
 
 -- the history leads to the state

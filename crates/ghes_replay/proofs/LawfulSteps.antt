@@ -2,7 +2,7 @@
 use Rattle.std.proofs.Common.{◌≡◌, ℕ, ◌+◌, ◌<◌, ◌≤◌, Bool, true, false, List, [], ◌∷◌, ◌++◌, map, length, refl, sym, ap, ◌∙◌, arith, append-nil, Option, Some, None}
 use Rattle.std.specs.Prelude.{slice_get, is_some}
 use Rattle.std.proofs.lemmas.List.{length-append, length-map}
-use Rattle.std.proofs.lemmas.Bool.{leb-true}
+use Rattle.std.proofs.lemmas.Bool.{leb-true, leb-false}
 use Rattle.std.proofs.lemmas.Option.{slice_get_within}
 use Rattle.ghes_replay.specs.declared.execute.Replay.{Replay}
 use Rattle.ghes_replay.specs.declared.line.What.TheVariants.{Raise, Nmi, Work}
@@ -31,15 +31,22 @@ lawful_raise block number history l = record {
   drained = (l.drained, refl);
 }
 
--- a full list of pending packets, by the names
-full_names : (history : List Step) (state : Replay) → IsKept state → IsTold history state → is_full state.pending ≡ true → 16 + length (taken_in history) ≤ length (queued_names (calls_in history))
-full_names history state k t full =
+-- how many blocks were queued, by those that were taken and those that are pending
+count_queued : (history : List Step) (state : Replay) → IsKept state → IsTold history state → length (queued_names (calls_in history)) ≡ length (taken_in history) + length state.pending
+count_queued history state k t =
     let told : length (queued_names (calls_in history)) ≡ length (queued_names state.ledger.calls) = ap (λ xs. length (queued_names xs)) (sym t.calls) in
     let named : length (queued_names state.ledger.calls) ≡ length (taken_names state.ledger.taken) + length (map name_of state.pending) = ap length k.names ∙ length-append (taken_names state.ledger.taken) (map name_of state.pending) in
     let taken : length (taken_names state.ledger.taken) ≡ length (taken_in history) = length-map state.ledger.taken _ ∙ ap length t.taken in
     let pending : length (map name_of state.pending) ≡ length state.pending = length-map state.pending name_of in
-    let many : 16 ≤ length state.pending = leb-true 16 (length state.pending) full in
     omega arith
+
+-- a full list of pending packets
+full_names : (history : List Step) (state : Replay) → IsKept state → IsTold history state → is_full state.pending ≡ true → 16 + length (taken_in history) ≤ length (queued_names (calls_in history))
+full_names history state k t full = omega (arith, count_queued history state k t, leb-true 16 (length state.pending) full)
+
+-- a list of pending packets with room
+free_names : (history : List Step) (state : Replay) → IsKept state → IsTold history state → is_full state.pending ≡ false → length (queued_names (calls_in history)) < 16 + length (taken_in history)
+free_names history state k t free = omega (arith, count_queued history state k t, leb-false 16 (length state.pending) free)
 
 -- after a call
 pub lawful_call : (standing : Option (List ℕ)) (full : Bool) (number : ℕ) (history : List Step) (state : Replay) → block_of state.blocks ≡ standing → is_full state.pending ≡ full → IsKept state → IsTold history state → AreLawfulSteps history → AreLawfulSteps (record { act = record { number = number; what = Some (Nmi 0) }; calls = call_at 0 (outcome_of standing full (state.blocks.acknowledged + 1)) ∷ []; taken = [] } ∷ history)
@@ -65,7 +72,7 @@ lawful_call (Some block) false number history state stands is k t l =
       calls = (l.calls, (Queued (state.blocks.acknowledged + 1), refl));
       made = (l.made, ((made, tt), tt));
       other_outcomes = (l.other_outcomes, (tt, tt));
-      no_slot = (l.no_slot, (tt, tt));
+      no_slot = (l.no_slot, (free_names history state k t is, tt));
       drained = (l.drained, refl);
     }
 

@@ -1,6 +1,6 @@
 -- When a ledger is lawful: its laws speak of the script's lines, the blocks of each source and the ledger, and
 -- of nothing that lies between a block and its fate.
-use Rattle.std.specs.Prelude.{◌≡◌, ◌≤◌, ℕ, ◌+◌, ◌==◌, if◌then◌else◌, List, [], ◌∷◌, map, length, take, Option, Some, None, IsSome, IsNone}
+use Rattle.std.specs.Prelude.{◌≡◌, ◌≤◌, ◌<◌, ℕ, ◌+◌, ◌==◌, if◌then◌else◌, List, [], ◌∷◌, map, length, take, Option, Some, None, IsSome, IsNone}
 use Rattle.std.specs.List.{flat_map, range_with_len, AllByRecursion}
 use Rattle.ghes_replay.specs.declared.line.Line.{Line}
 use Rattle.ghes_replay.specs.declared.line.What.{What}
@@ -72,11 +72,12 @@ StandsOrNot before s Nothing = IsNone (standing s before)
 StandsOrNot before s NoSlot = IsSome (standing s before)
 StandsOrNot before s (Queued number) = Unit {0}
 
--- NoSlot comes only where at least as many blocks as there are slots were queued before and not taken before.
-abbrev pub WasFull : List Step → Outcome → Type 0
-WasFull before Nothing = Unit {0}
-WasFull before NoSlot = slots + length (taken_in before) ≤ length (queued_names (calls_in before))
-WasFull before (Queued number) = Unit {0}
+-- NoSlot comes only where at least as many blocks as there are slots were queued before and not taken before, and
+-- Queued only where there were fewer.
+abbrev pub FitsSlots : List Step → Outcome → Type 0
+FitsSlots before Nothing = Unit {0}
+FitsSlots before NoSlot = slots + length (taken_in before) ≤ length (queued_names (calls_in before))
+FitsSlots before (Queued number) = length (queued_names (calls_in before)) < slots + length (taken_in before)
 
 -- After a line `work`, and after the end of the script, each block acknowledged so far is taken, in that order.
 -- No other line takes a block.
@@ -98,8 +99,8 @@ pub record IsLawful (lines : List Line) (kept : Kept) (history : List Step) : Ty
   pub made : Each (λ before step. AllByRecursion (WasMade before) step.calls) history
   -- why a call answers Nothing or NoSlot
   pub other_outcomes : Each (λ before step. AllByRecursion (λ call. StandsOrNot before call.source call.reply.outcome) step.calls) history
-  -- what NoSlot says of the slots
-  pub no_slot : Each (λ before step. AllByRecursion (λ call. WasFull before call.reply.outcome) step.calls) history
+  -- what NoSlot and Queued say of the slots
+  pub no_slot : Each (λ before step. AllByRecursion (λ call. FitsSlots before call.reply.outcome) step.calls) history
   -- the taken blocks of a source are the acknowledged ones, each once, in order and byte for byte
   pub one_fate : (s : ℕ) → of_source s (map packet_of kept.taken) ≡ packets_from s 1 (take (acknowledged s kept.calls) (queue s (acts_of lines)))
   -- the blocks are taken in the order in which they were acknowledged
