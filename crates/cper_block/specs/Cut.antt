@@ -20,7 +20,7 @@ abbrev pub begins_entry : List ℕ → Bool
 begins_entry bytes = nat_le 64 (length bytes) && nat_le (entry_length bytes) (length bytes)
 
 -- why a rest behind so many whole entries makes a block malformed
--- (after Linux 6.1, drivers/firmware/efi/cper.c; own choice: the count, and that a rest is refused)
+-- (after Linux 6.1, drivers/firmware/efi/cper.c; own choice: the two reasons, and the count)
 abbrev pub rest_reason : ℕ → List ℕ → Option Malformed
 rest_reason whole rest =
     if length rest == 0 then None
