@@ -7,6 +7,8 @@ mod entry;
 mod header;
 mod malformed;
 mod severity;
+#[cfg(test)]
+mod tests;
 
 pub use block::Block;
 pub use entries::Entries;
