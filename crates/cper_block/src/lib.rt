@@ -8,6 +8,8 @@ mod header;
 mod laws;
 mod malformed;
 mod severity;
+#[cfg(test)]
+mod tests;
 
 pub use block::Block;
 pub use entries::Entries;
