@@ -1,7 +1,7 @@
 -- Data that is cut into entries, one more at a time.
-use Rattle.std.proofs.Common.{◌≡◌, ◌≤◌, ℕ, zero, suc, ◌-◌, Bool, true, false, cond, leb, ◌&&◌, List, [], ◌∷◌, ◌++◌, length, take, drop, refl, sym, ap, ◌∙◌, arith, append_assoc, append-nil}
+use Rattle.std.proofs.Common.{◌≡◌, ◌≤◌, ◌<◌, ℕ, zero, suc, ◌-◌, ◌*◌, ◌^◌, Bool, true, false, cond, leb, ◌&&◌, List, [], ◌∷◌, ◌++◌, length, take, drop, refl, sym, ap, ◌∙◌, arith, append_assoc, append-nil}
 use Rattle.std.specs.List.{flat_map, AllByRecursion}
-use Rattle.std.proofs.lemmas.Bool.{le-leb}
+use Rattle.std.proofs.lemmas.Bool.{le-leb, leb-true, false≢true}
 use Rattle.std.proofs.lemmas.List.{length-take-le, length-drop, take-append-drop}
 use Rattle.std.proofs.lemmas.List.Concat.{flat_map-append}
 use Rattle.cper_block.specs.Entry.{entry_length, fields_of}
@@ -76,6 +76,32 @@ entries_step bytes begins long =
     ap (λ steps. entries_in steps bytes) size
     ∙ ap (λ b. cond b (first ∷ entries_in m (drop n bytes)) []) begins
     ∙ ap (λ rest. first ∷ rest) (enough_alike m (length (drop n bytes)) (drop n bytes) (rest_shorter bytes m (omega arith) begins) (omega arith))
+
+second_true : (a b : Bool) → (a && b) ≡ true → b ≡ true
+second_true true b both = both
+second_true false b both = absurd (false≢true both)
+
+-- each entry has a header's bytes
+entries_in_fit : (n : ℕ) (bytes : List ℕ) → 64 * length (entries_in n bytes) ≤ length bytes
+entries_in_fit zero bytes = omega arith
+entries_in_fit (suc n) bytes =
+    let size = entry_length bytes in
+    let P : Bool → Type 0 = λ b. begins_entry bytes ≡ b → 64 * length (cond b (fields_of (take size bytes) ∷ entries_in n (drop size bytes)) []) ≤ length bytes in
+    let all : P (begins_entry bytes) = elim (begins_entry bytes) as P [
+      | true ↦ λ begins.
+          let within : 64 * length (entries_in n (drop size bytes)) ≤ length (drop size bytes) = entries_in_fit n (drop size bytes) in
+          let more : 64 ≤ size = entry_at_least bytes in
+          let whole : size ≤ length bytes = leb-true size (length bytes) (second_true (leb 64 (length bytes)) (leb size (length bytes)) begins) in
+          omega (arith, length-drop size bytes)
+      | false ↦ λ begins. omega arith
+    ] in
+    all refl
+
+-- fewer than 2^32 bytes hold fewer than 2^26 entries
+pub few_entries : (bytes : List ℕ) → length bytes < 2 ^ 32 → length (entries_of bytes) < 2 ^ 26
+few_entries bytes short =
+    let fit : 64 * length (entries_of bytes) ≤ length bytes = entries_in_fit (length bytes) bytes in
+    omega arith
 
 -- a whole entry begins bytes that are long enough
 pub begins_long : (bytes : List ℕ) → 64 ≤ length bytes → entry_length bytes ≤ length bytes → begins_entry bytes ≡ true

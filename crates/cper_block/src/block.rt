@@ -18,9 +18,12 @@ pub struct Block<'a> {
 }
 
 impl<'a> Model for Block<'a> {
+    ghost use Rattle.std.specs.Prelude.{◌<◌, ◌^◌, length};
     ghost use Rattle.cper_block.specs.Block.{Parts};
 
     ghost Value = { Parts };
+
+    ghost invariant = { λ b. length b.entries.now < 2 ^ 32 };
 
     ghost view = { λ b. record { header = b.header; entries = b.entries.now; raw = b.raw.now } };
 }
@@ -60,6 +63,7 @@ fn header_at(bytes: &[u8]) -> Header
 impl<'a> Block<'a> {
     ghost use Rattle.cper_block.specs.Header.{header_of};
     ghost use Rattle.cper_block.specs.Block.{Judges, data_of, raw_of};
+    ghost use Rattle.cper_block.specs.Cut.{entries_of};
 
     /// Reads the block at the front of the bytes, which may have `limit` bytes.
     ///
@@ -100,9 +104,11 @@ impl<'a> Block<'a> {
         self.header
     }
 
-    /// The entries, in order.
+    /// The entries, in order. There are fewer than 2^26 of them.
+    #[tactic(auto, using(crate::proofs::CutLemmas::few_entries))]
     pub fn entries(&self) -> Entries<'a>
-        ensures { result ≡ self.now.entries }
+        ensures value { result ≡ self.now.entries }
+        ensures few { length (entries_of result) < 2 ^ 26 }
     {
         Entries::of(self.entries)
     }

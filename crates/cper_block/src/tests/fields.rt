@@ -19,11 +19,10 @@ fn a_memory_block_gives_its_header_and_its_entry(rt: HostRuntime) -> Result<(), 
     assert_eq!(rt; block.header(), header);
     assert_eq!(rt; block.header().severity(), Severity::Corrected);
     assert_eq!(rt; block.raw().len(), 0);
-    let mut entries = block.entries();
-    let Some(entry) = entries.next() else {
+    assert_eq!(rt; block.entries().count(), 1);
+    let Some(entry) = block.entries().next() else {
         panic!(rt; "no entry");
     };
-    assert!(rt; entries.next().is_none());
     let guid = Uuid::parse_str("a5bc1114-6f64-4ede-b863-3e83ed7c83b1")?;
     assert_eq!(rt; entry.guid, guid);
     assert_eq!(rt; (entry.severity, entry.revision), (2, 0x0201));
