@@ -1,3 +1,5 @@
+pub mod Cut
+pub mod Number
 pub mod Refusal
 pub mod Region
 pub mod Table

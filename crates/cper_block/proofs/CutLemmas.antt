@@ -1,20 +1,11 @@
 -- Data that is cut into entries, one more at a time.
-use Rattle.std.proofs.Common.{◌≡◌, ◌≤◌, ◌<◌, ℕ, zero, suc, ◌-◌, ◌*◌, ◌^◌, Bool, true, false, cond, leb, ◌&&◌, List, [], ◌∷◌, ◌++◌, length, take, drop, refl, sym, ap, ◌∙◌, arith, append_assoc, append-nil}
-use Rattle.std.specs.List.{flat_map, AllByRecursion}
+use Rattle.std.proofs.Common.{◌≡◌, ◌≤◌, ◌<◌, ℕ, zero, suc, ◌-◌, ◌*◌, ◌^◌, Bool, true, false, cond, leb, ◌&&◌, List, [], ◌∷◌, ◌++◌, length, take, drop, refl, sym, ap, ◌∙◌, arith}
+use Rattle.apei_base.proofs.CutLemmas as base
 use Rattle.std.proofs.lemmas.Bool.{le-leb, leb-true, false≢true}
 use Rattle.std.proofs.lemmas.List.{length-take-le, length-drop, take-append-drop}
-use Rattle.std.proofs.lemmas.List.Concat.{flat_map-append}
 use Rattle.cper_block.specs.Entry.{entry_length, fields_of}
 use Rattle.cper_block.specs.Cut.{IsEntry, Cuts, begins_entry, entries_in, entries_of}
 use Rattle.cper_block.proofs.EntryLemmas.{entry_length-append, entry_at_least}
-
-joined : List (List ℕ) → List ℕ
-joined entries = flat_map (λ entry. entry) entries
-
--- what holds of each element and of one more
-all_push : (P : List ℕ → Type 0) (xs : List (List ℕ)) (y : List ℕ) → AllByRecursion P xs → P y → AllByRecursion P (xs ++ y ∷ [])
-all_push P [] y all here = (here, tt)
-all_push P (x ∷ xs) y all here = (all.0, all_push P xs y all.1 here)
 
 -- the front of bytes that begin with an entry is one
 pub front_is_entry : (bytes : List ℕ) → 64 ≤ length bytes → 64 ≤ entry_length bytes → entry_length bytes ≤ length bytes → IsEntry (take (entry_length bytes) bytes)
@@ -26,22 +17,10 @@ front_is_entry bytes long header whole =
     ap entry_length (sym (take-append-drop n bytes)) ∙ entry_length-append (take n bytes) (drop n bytes) long_front in
     record { header = long_front; stated = size ∙ same }
 
--- no entry yet
-pub cuts_none : (bytes : List ℕ) → Cuts bytes [] bytes
-cuts_none bytes = record { whole = refl; each = tt }
-
 -- one more entry
 pub cuts_more : (bytes : List ℕ) (entries : List (List ℕ)) (rest : List ℕ) → 64 ≤ length rest → 64 ≤ entry_length rest → entry_length rest ≤ length rest → Cuts bytes entries rest → Cuts bytes (entries ++ take (entry_length rest) rest ∷ []) (drop (entry_length rest) rest)
 cuts_more bytes entries rest long header whole c =
-    let n = entry_length rest in
-    record {
-      whole =
-          c.whole ∙ ap (λ xs. flat_map (λ (entry : List ℕ). entry) entries ++ xs) (sym (take-append-drop n rest))
-          ∙ sym (append_assoc (flat_map (λ (entry : List ℕ). entry) entries) (take n rest) (drop n rest))
-          ∙ ap (λ xs. flat_map (λ (entry : List ℕ). entry) entries ++ xs ++ drop n rest) (sym (append-nil (take n rest)))
-          ∙ ap (λ xs. xs ++ drop n rest) (sym (flat_map-append (λ (entry : List ℕ). entry) entries (take n rest ∷ [])));
-      each = all_push IsEntry entries (take n rest) c.each (front_is_entry rest long header whole);
-    }
+    base.cuts_more IsEntry (entry_length rest) bytes entries rest (front_is_entry rest long header whole) c
 
 -- what is left behind a whole entry is shorter
 rest_shorter : (bytes : List ℕ) (m : ℕ) → length bytes ≤ suc m → begins_entry bytes ≡ true → length (drop (entry_length bytes) bytes) ≤ m

@@ -2,7 +2,7 @@
 use Rattle.std.proofs.Common.{◌≡◌, ◌≤◌, ℕ, zero, suc, ◌+◌, ◌*◌, ◌/◌, Bool, true, false, cond, leb, List, ◌++◌, length, drop, get_or, refl, ap, ◌∙◌, arith}
 use Rattle.std.proofs.lemmas.List.{length-drop, get_or_append_left, drop-append-le}
 use Rattle.byteorder.specs.Endian.{little_from, little_number}
-use Rattle.cper_block.specs.Header.{number_at}
+use Rattle.apei_base.specs.Number.{number_at}
 use Rattle.cper_block.specs.Entry.{entry_header_length, section_length, entry_length}
 
 -- a number that lies in the front

@@ -1,6 +1,7 @@
 -- A whole error status block: its parts, and why bytes are none (ACPI 6.5, 18.3.2.7.1).
 use Rattle.std.specs.Prelude.{◌≡◌, ◌<◌, ◌+◌, ℕ, min, ◌==◌, nat_lt, if◌then◌else◌, List, [], ◌++◌, length, take, drop, Option, Some, None}
-use Rattle.std.specs.List.{flat_map, AllByRecursion}
+use Rattle.std.specs.List.{AllByRecursion}
+use Rattle.apei_base.specs.Cut.{joined}
 use Rattle.cper_block.specs.Header.{header_of, header_reason}
 use Rattle.cper_block.specs.Cut.{IsEntry, Walks}
 use Rattle.cper_block.specs.declared.header.Header.{Header}
@@ -41,10 +42,10 @@ pub record IsJoined (header : Header) (block : List ℕ) (entries : List (List �
   pub front : List ℕ
   pub gap : List ℕ
   pub raw : List ℕ
-  pub whole : block ≡ front ++ (flat_map (λ entry. entry) entries ++ (gap ++ raw))
+  pub whole : block ≡ front ++ (joined entries ++ (gap ++ raw))
   pub front_length : length front ≡ 20
   pub each : AllByRecursion IsEntry entries
-  pub data_length : length (flat_map (λ entry. entry) entries) ≡ header.length
+  pub data_length : length (joined entries) ≡ header.length
   pub raw_length : length raw ≡ header.raw_length
   pub raw_offset : 0 < header.raw_length → 20 + header.length + length gap ≡ header.raw_offset
   pub no_gap : header.raw_length ≡ 0 → gap ≡ []

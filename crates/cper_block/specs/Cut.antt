@@ -1,6 +1,6 @@
 -- The data of a block, cut into entries (UEFI 2.10, appendix N.2; ACPI 6.5, 18.3.2.7.1).
-use Rattle.std.specs.Prelude.{◌≡◌, ◌≤◌, ℕ, zero, suc, ◌==◌, ◌&&◌, nat_lt, nat_le, if◌then◌else◌, Bool, false, List, [], ◌∷◌, ◌++◌, length, take, drop, Option, Some, None}
-use Rattle.std.specs.List.{flat_map, AllByRecursion}
+use Rattle.std.specs.Prelude.{◌≡◌, ◌≤◌, ℕ, zero, suc, ◌==◌, ◌&&◌, nat_lt, nat_le, if◌then◌else◌, Bool, false, List, [], ◌∷◌, length, take, drop, Option, Some, None}
+use Rattle.apei_base.specs.Cut.{CutsInto}
 use Rattle.cper_block.specs.Entry.{entry_length, Fields, fields_of}
 use Rattle.cper_block.specs.declared.malformed.Malformed.{Malformed}
 use Rattle.cper_block.specs.declared.malformed.Malformed.TheVariants.{EntryTruncated, Leftover}
@@ -11,9 +11,8 @@ pub record IsEntry (bytes : List ℕ) : Type 0 where
   pub stated : length bytes ≡ entry_length bytes
 
 -- The data is these entries, one behind the other, and then a rest.
-pub record Cuts (bytes : List ℕ) (entries : List (List ℕ)) (rest : List ℕ) : Type 0 where
-  pub whole : bytes ≡ flat_map (λ entry. entry) entries ++ rest
-  pub each : AllByRecursion IsEntry entries
+abbrev pub Cuts : List ℕ → List (List ℕ) → List ℕ → Type 0
+Cuts bytes entries rest = CutsInto IsEntry bytes entries rest
 
 -- a whole entry begins the bytes
 abbrev pub begins_entry : List ℕ → Bool

@@ -2,7 +2,7 @@
 use Rattle.std.specs.Prelude.{ℕ, ◌+◌, ◌/◌, ◌==◌, ◌&&◌, not, nat_le, if◌then◌else◌, Bool, List, take, drop, slice_index, bit_and, Option, Some, None}
 use Rattle.std.specs.Option.{option_copied}
 use Rattle.uuid.specs.Parts.{swap_fields}
-use Rattle.cper_block.specs.Header.{number_at}
+use Rattle.apei_base.specs.Number.{number_at}
 use Rattle.cper_block.specs.declared.entry.DataEntry.{DataEntry}
 
 -- The header of an entry has 72 bytes where the high byte of its revision, at offset 20, is 3 or more: there a

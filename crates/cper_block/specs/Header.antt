@@ -1,14 +1,10 @@
 -- The header of an error status block, and what it says of the block (ACPI 6.5, 18.3.2.7.1).
-use Rattle.std.specs.Prelude.{ℕ, ◌+◌, ◌==◌, ◌&&◌, not, nat_lt, if◌then◌else◌, List, [], ◌∷◌, drop, Option}
-use Rattle.byteorder.specs.Endian.{little_number}
+use Rattle.std.specs.Prelude.{ℕ, ◌+◌, ◌==◌, ◌&&◌, not, nat_lt, if◌then◌else◌, List, [], ◌∷◌, Option}
+use Rattle.apei_base.specs.Number.{number_at}
 use Rattle.apei_base.specs.Refusal.{first_of}
 use Rattle.cper_block.specs.declared.header.Header.{Header}
 use Rattle.cper_block.specs.declared.malformed.Malformed.{Malformed}
 use Rattle.cper_block.specs.declared.malformed.Malformed.TheVariants.{TooShort, TooLong, DataLength, RawOffset}
-
--- the number in the n bytes at an offset
-abbrev pub number_at : ℕ → ℕ → List ℕ → ℕ
-number_at offset n bytes = little_number n (drop offset bytes)
 
 -- the header that 20 bytes spell (ACPI 6.5, 18.3.2.7.1)
 abbrev pub header_of : List ℕ → Header

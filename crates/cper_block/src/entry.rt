@@ -1,6 +1,6 @@
 ghost use Rattle.std.specs.Prelude.{◌≡◌, ◌≤◌, ◌+◌, length};
 ghost use Rattle.std.specs.Option.{option_copied};
-ghost use Rattle.cper_block.specs.Header.{number_at};
+ghost use Rattle.apei_base.specs.Number.{number_at};
 ghost use Rattle.cper_block.specs.Entry.{entry_header_length, section_length, entry_length, guid_at, is_valid, view, fields_of};
 
 use byteorder::{ByteOrder, LittleEndian};
