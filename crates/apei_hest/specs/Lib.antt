@@ -1,4 +1,6 @@
-pub mod Built
+pub mod Admitted
 pub mod Hest
+pub mod Refusal
 pub mod Source
+pub mod Structure
 pub mod Text

@@ -1,9 +1,10 @@
-ghost use Rattle.std.specs.Prelude.{◌≡◌, length, IsTrue};
-ghost use Rattle.apei_hest.specs.Built.{has_wide_status, is_built};
+ghost use Rattle.std.specs.Prelude.{◌≡◌, ◌≤◌, ◌<◌, ◌^◌, length, drop};
+ghost use Rattle.apei_hest.specs.Admitted.{Finds};
 
-use crate::source::ghes_of;
-use crate::{Ghes, HestError, Source};
-use apei_base::{Region, Sdt};
+use crate::admitted::Admitted;
+use crate::structure::whole_length;
+use crate::{HestError, Source};
+use apei_base::Sdt;
 use byteorder::{ByteOrder, LittleEndian};
 use std::alloc::Global;
 use std::marker::Model;
@@ -25,58 +26,50 @@ impl Model for Hest {
     ghost view = { λ h. h.sources.items };
 }
 
-// Where the first structure begins, in bytes from the start of the table: behind the header and the count.
-const FIRST_STRUCTURE: u32 = 40;
+// Where the count of the structures stands, and where the first one begins, in bytes from the start of the table.
+const COUNT: usize = 36;
 
-// Whether the status address register of a source is read in 32 or 64 bits.
-fn has_wide_status(ghes: &Ghes) -> bool
-    ensures { result ≡ has_wide_status ghes.now }
-{
-    match ghes.status.check() {
-        Ok(Region { width, .. }) => width == 32 || width == 64,
-        Err(_) => false,
-    }
-}
+const FIRST_STRUCTURE: usize = 40;
 
-// Whether a table is of the one form that is read so far.
-#[tactic(auto, unfolding(crate::specs::Built::is_built))]
-fn is_built(bytes: &[u8]) -> bool
-    ensures value { result ≡ is_built bytes.now }
-    ensures long { IsTrue result → length bytes.now ≡ 104 }
+// The sources of the structures, each judged behind those before it.
+fn walk(alloc: Global, bytes: &[u8]) -> Result<Admitted, HestError>
+    requires counted { 40 ≤ length bytes.now }
+    requires small { length bytes.now < 2 ^ 32 }
+    ensures { Finds (drop 40 bytes.now) result }
 {
-    if bytes.len() != 104 {
-        return false;
+    let mut admitted = Admitted::new(alloc);
+    let (_front, mut rest) = bytes.split_at(FIRST_STRUCTURE);
+    while !rest.is_empty() {
+        let at = (bytes.len() - rest.len()) as u32;
+        let (structure, later) = rest.split_at(whole_length(rest, at)?);
+        admitted = admitted.admit(Source::read(structure, at))?;
+        rest = later;
     }
-    let (_front, structure) = bytes.split_at(40);
-    let ghes = ghes_of(structure, FIRST_STRUCTURE);
-    LittleEndian::read_u32(&bytes[36..]) == 1
-        && LittleEndian::read_u16(structure) == 9
-        && ghes.enabled
-        && ghes.block_length >= 20
-        && has_wide_status(&ghes)
+    Ok(admitted)
 }
 
 impl Hest {
-    ghost use Rattle.apei_hest.specs.Hest.{Gives, hest_of};
+    ghost use Rattle.apei_hest.specs.Hest.{Reads};
 
     /// Reads the error sources of a HEST, in table order.
     ///
-    /// `bytes` is the whole table with its header. Bytes that are no table are refused first. So far
-    /// a table is accepted only with one enabled structure of type 9 (a generic hardware error source of
-    /// version 1) and nothing else, whose block has room for the 20 bytes of a block's header, and whose
-    /// status address register is read in 32 or 64 bits.
-    /// Source: ACPI 6.5, 18.3.2. The one form that is accepted so far: Own choice.
+    /// `bytes` is the whole table with its header. Offsets in errors are in bytes from its start. The first
+    /// refusal along the table is answered; a table without room for the count is truncated at 36, and the count
+    /// is tested last. Registers and block lengths of sources that are not enabled are not judged.
+    /// Source: ACPI 6.5, 18.3.2. Which refusal is first: Own choice.
     pub fn read(alloc: Global, bytes: &[u8]) -> Result<Hest, HestError>
-        ensures { Gives result (hest_of bytes.now) }
+        ensures { Reads bytes.now result }
     {
         Sdt::read(bytes, b"HEST")?;
-        if !is_built(bytes) {
-            return Err(HestError::NotBuilt);
+        if bytes.len() < FIRST_STRUCTURE {
+            return Err(HestError::Truncated { at: COUNT as u32 });
         }
-        let (_front, structure) = bytes.split_at(40);
-        let ghes = ghes_of(structure, FIRST_STRUCTURE);
-        let mut sources = Vec::with_capacity(alloc, 1)?;
-        sources.push(Source::Ghes(ghes))?;
+        let said = LittleEndian::read_u32(&bytes[COUNT..]);
+        let sources = walk(alloc, bytes)?.into_sources();
+        let found = sources.len() as u32;
+        if said != found {
+            return Err(HestError::CountMismatch { said, found });
+        }
         Ok(Hest { sources })
     }
 

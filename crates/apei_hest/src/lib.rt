@@ -1,13 +1,16 @@
 //! Reads the hardware error sources of a HEST, the table in which firmware lists how it reports errors. A
-//! table is read whole or refused with the first reason.
+//! table is read whole or refused with the first reason along it.
 #![tactic(auto)]
 
+mod admitted;
 mod error;
+mod fields;
 mod hest;
+mod laws;
 mod source;
-#[cfg(test)]
-mod tests;
+mod structure;
 
 pub use error::HestError;
 pub use hest::Hest;
+pub use laws::{a_table_is_read_in_one_way, an_accepted_table_is_its_structures};
 pub use source::{Ack2, Ghes, Notify, Source};

@@ -1,8 +1,9 @@
-ghost use Rattle.std.specs.Prelude.{◌≡◌, ◌≤◌, ◌+◌, length};
-ghost use Rattle.apei_hest.specs.Source.{number_at, gas_at, notify_of, ghes_of};
+ghost use Rattle.std.specs.Prelude.{◌≡◌, ◌<◌, ◌^◌, length};
+ghost use Rattle.apei_hest.specs.Source.{source_of};
+ghost use Rattle.apei_hest.specs.Structure.{IsStructure};
 
+use crate::fields::{ack_of, ghes_of, u16_at};
 use apei_base::Gas;
-use byteorder::{ByteOrder, LittleEndian};
 
 /// One error source structure of a HEST.
 ///
@@ -94,69 +95,22 @@ pub struct Ack2 {
     pub write: u64,
 }
 
-// The number in the two bytes at an offset.
-fn u16_at(bytes: &[u8], offset: usize) -> u16
-    requires { offset + 2 ≤ length bytes.now }
-    ensures { result ≡ number_at offset 2 bytes.now }
-{
-    LittleEndian::read_u16(&bytes[offset..])
-}
-
-// The number in the four bytes at an offset.
-fn u32_at(bytes: &[u8], offset: usize) -> u32
-    requires { offset + 4 ≤ length bytes.now }
-    ensures { result ≡ number_at offset 4 bytes.now }
-{
-    LittleEndian::read_u32(&bytes[offset..])
-}
-
-// The generic address at an offset.
-fn gas_at(bytes: &[u8], offset: usize) -> Gas
-    requires { offset + 12 ≤ length bytes.now }
-    ensures { result ≡ gas_at offset bytes.now }
-{
-    let mut address = [0u8; 12];
-    address.copy_from_slice(&bytes[offset..offset + 12]);
-    Gas::read(&address)
-}
-
-// The notification structure at the front of the bytes.
-fn notify_of(bytes: &[u8]) -> Notify
-    requires { 28 ≤ length bytes.now }
-    ensures { result ≡ notify_of bytes.now }
-{
-    Notify {
-        kind: bytes[0],
-        length: bytes[1],
-        write_enable: u16_at(bytes, 2),
-        poll: u32_at(bytes, 4),
-        vector: u32_at(bytes, 8),
-        poll_threshold: u32_at(bytes, 12),
-        poll_window: u32_at(bytes, 16),
-        error_threshold: u32_at(bytes, 20),
-        error_window: u32_at(bytes, 24),
-    }
-}
-
-/// The GHES structure of 64 bytes at the front of the bytes, which begin at `at` in their table.
-#[tactic(auto, unfolding(crate::specs::Source::ghes_of))]
-pub(crate) fn ghes_of(bytes: &[u8], at: u32) -> Ghes
-    requires { 64 ≤ length bytes.now }
-    ensures { result ≡ ghes_of bytes.now at }
-{
-    let (_front, notify) = bytes.split_at(32);
-    Ghes {
-        id: u16_at(bytes, 2),
-        at,
-        related: u16_at(bytes, 4),
-        flags: bytes[6],
-        enabled: bytes[7] != 0,
-        records: u32_at(bytes, 8),
-        sections: u32_at(bytes, 12),
-        raw: u32_at(bytes, 16),
-        status: gas_at(bytes, 20),
-        notify: notify_of(notify),
-        block_length: u32_at(bytes, 60),
-        ack: None,
+impl Source {
+    /// The source of the structure that the bytes are, and that begins at `at` in its table.
+    pub(crate) fn read(bytes: &[u8], at: u32) -> Source
+        requires whole { IsStructure bytes.now }
+        requires small { length bytes.now < 2 ^ 32 }
+        ensures { result ≡ source_of bytes.now at }
+    {
+        match u16_at(bytes, 0) {
+            9 => Source::Ghes(ghes_of(bytes, at, None)),
+            10 => Source::Ghes(ghes_of(bytes, at, Some(ack_of(bytes)))),
+            kind => Source::Skipped {
+                kind,
+                id: u16_at(bytes, 2),
+                at,
+                length: bytes.len() as u32,
+            },
+        }
     }
 }

@@ -1,0 +1,41 @@
+-- Sources that were read so far, and one more.
+use Rattle.std.specs.Prelude.{◌≡◌, ◌<◌, ◌≤◌, ℕ, ◌+◌, List, [], ◌∷◌, ◌++◌, length, Option, Some, None, Result, Ok, Err}
+use Rattle.std.specs.Ordering.{nat_cmp}
+use Rattle.std.specs.BTreeSet.{BTreeSet, contains}
+use Rattle.apei_base.specs.Cut.{joined, CutsInto}
+use Rattle.apei_hest.specs.Hest.{refusal_at, HasCause}
+use Rattle.apei_hest.specs.Refusal.{has_id, source_refusal, AreAccepted}
+use Rattle.apei_hest.specs.Source.{sources_from}
+use Rattle.apei_hest.specs.Structure.{IsStructure}
+use Rattle.apei_hest.specs.declared.error.HestError.{HestError}
+use Rattle.apei_hest.specs.declared.source.Source.{Source}
+
+-- the set has the ids of the generic sources
+abbrev pub HasIds : BTreeSet ℕ → List Source → Type 0
+HasIds ids found = (id : ℕ) → contains nat_cmp ids id ≡ has_id id found
+
+-- what one source more answers behind these: it is the last one now, or it is refused
+abbrev pub Admits : List Source → Source → Result (List Source) HestError → Type 0
+Admits before source (Ok after) = (source_refusal before source ≡ None) × (after ≡ before ++ source ∷ [])
+Admits before source (Err error) = HasCause (λ cause. source_refusal before source ≡ Some cause) error
+
+-- The bytes from offset 40 of a table on are structures with these sources, none of which is refused, and then a rest.
+pub record IsWalked (bytes : List ℕ) (structures : List (List ℕ)) (rest : List ℕ) (found : List Source) : Type 0 where
+  pub cut : CutsInto IsStructure bytes structures rest
+  pub sources : found ≡ sources_from 40 structures
+  pub accepted : AreAccepted [] found
+  pub few : length found ≤ length (joined structures)
+
+-- A walk over the bytes is refused with this error.
+pub record StopsWith (bytes : List ℕ) (error : HestError) : Type 0 where
+  pub structures : List (List ℕ)
+  pub rest : List ℕ
+  pub before : List Source
+  pub walked : IsWalked bytes structures rest before
+  pub left : 0 < length rest
+  pub refused : refusal_at before (40 + length (joined structures)) rest ≡ Some error
+
+-- what a walk over the bytes answers: the sources of all of them, or the first refusal
+abbrev pub Finds : List ℕ → Result (List Source) HestError → Type 0
+Finds bytes (Ok found) = (structures : List (List ℕ)) × IsWalked bytes structures [] found
+Finds bytes (Err error) = HasCause (StopsWith bytes) error

@@ -1,0 +1,17 @@
+//! Laws over the definitions, each the contract of a function that does nothing.
+ghost use Rattle.std.specs.Prelude.{◌≡◌, ◌↔◌, ℕ, List, Result, Ok};
+ghost use Rattle.apei_hest.specs.declared.source.Source.{Source};
+ghost use Rattle.apei_hest.specs.declared.error.HestError.{HestError};
+ghost use Rattle.apei_hest.specs.Hest.{IsHest, Judges};
+
+/// A table is accepted exactly where it is its header, its count and structures one behind another, none of which is
+/// refused and which are as many as the count says; its sources are those of the structures, in order.
+pub fn an_accepted_table_is_its_structures()
+    ensures { (bytes : List ℕ) (found : List Source) → Judges bytes (Ok found) ↔ IsHest bytes found }
+{}
+
+/// Bytes are judged in one way: they are accepted with some sources or refused, and for one reason.
+pub fn a_table_is_read_in_one_way()
+    ensures { (bytes : List ℕ) (first second : Result (List Source) HestError) → Judges bytes first → Judges bytes second
+        → first ≡ second }
+{}
