@@ -1,3 +1,4 @@
+pub mod AnswerLemmas
 pub mod EndLemmas
 pub mod Facts
 pub mod FateLemmas
@@ -15,5 +16,6 @@ pub mod PutLemmas
 pub mod RunLemmas
 pub mod Running
 pub mod Scanning
+pub mod ServedLemmas
 pub mod ToldSteps
 pub mod WordLemmas

@@ -8,7 +8,7 @@ use Rattle.ghes_outside.specs.declared.files.LoadError.TheVariants as loads
 use Rattle.apei_hest.specs.declared.source.Ghes.{Ghes}
 use Rattle.ghes_replay.specs.declared.exit.InputFile.TheVariants as files
 use Rattle.ghes_replay.specs.Seen.{FilesSeen, Loads, table_limit, script_limit}
-use Rattle.ghes_replay.specs.Loading.{LoadsTable, LoadsScript, load_refusal}
+use Rattle.ghes_replay.specs.Loading.{LoadsHest, LoadsScript, load_refusal}
 
 -- no new name
 pub adds_none : (told : Option (List (List ℕ))) → told ≡ option_map (λ old. old ++ []) told
@@ -36,10 +36,10 @@ loads_by before after name limit loads.Failed f = record { contents = f.contents
 loads_by before after name limit loads.TooLong f = record { contents = f.contents; grows = f.grows; names = []; added = f.names ∙ adds_none _; each = tt }
 loads_by before after name limit loads.OutOfMemory f = record { contents = f.contents; grows = f.grows; names = []; added = f.names ∙ adds_none _; each = tt }
 
-pub table_not_loaded : (before after : FilesSeen) (name : List ℕ) (why : LoadError) → FailedLoad before after name table_limit why → LoadsTable before after name (Err (load_refusal files.Hest why))
-table_not_loaded before after name loads.Failed f = record { loads = loads_by _ _ _ _ loads.Failed f; found = tt; unfailed = tt; refused = (f.failed refl, f.names) }
-table_not_loaded before after name loads.TooLong f = record { loads = loads_by _ _ _ _ loads.TooLong f; found = tt; unfailed = tt; refused = f.too_long refl }
-table_not_loaded before after name loads.OutOfMemory f = record { loads = loads_by _ _ _ _ loads.OutOfMemory f; found = tt; unfailed = tt; refused = tt }
+pub hest_not_loaded : (before after : FilesSeen) (name : List ℕ) (why : LoadError) → FailedLoad before after name table_limit why → LoadsHest before after name (Err (load_refusal files.Hest why))
+hest_not_loaded before after name loads.Failed f = record { loads = loads_by _ _ _ _ loads.Failed f; found = tt; unfailed = tt; refused = (f.failed refl, f.names) }
+hest_not_loaded before after name loads.TooLong f = record { loads = loads_by _ _ _ _ loads.TooLong f; found = tt; unfailed = tt; refused = f.too_long refl }
+hest_not_loaded before after name loads.OutOfMemory f = record { loads = loads_by _ _ _ _ loads.OutOfMemory f; found = tt; unfailed = tt; refused = tt }
 
 pub script_not_loaded : (before after : FilesSeen) (name : List ℕ) (ghes : Ghes) (why : LoadError) → FailedLoad before after name script_limit why → LoadsScript before after name ghes (Err (load_refusal files.Script why))
 script_not_loaded before after name ghes loads.Failed f = record { loads = loads_by _ _ _ _ loads.Failed f; found = tt; few = tt; refused = (f.failed refl, f.names) }

@@ -1,10 +1,11 @@
 -- A replay by its parts: the table, then the script, then its lines.
-use Rattle.std.proofs.Common.{◌≡◌, ◌≤◌, ◌+◌, ◌⊎◌, ℕ, List, [], ◌∷◌, ◌++◌, Option, Result, Ok, Err, ap, ◌∙◌, subst, arith, inl, inr}
+use Rattle.std.proofs.Common.{◌≡◌, ◌≤◌, ◌+◌, ◌⊎◌, ℕ, List, [], ◌∷◌, ◌++◌, Option, Some, None, Result, Ok, Err, ap, ◌∙◌, subst, arith, inl, inr}
 use Rattle.std.specs.Option.{option_map}
 use Rattle.std.specs.List.{AllByRecursion}
 use Rattle.ghes_outside.specs.Outside.{Agrees, IsLonger}
 use Rattle.ghes_outside.specs.declared.files.LoadError.TheVariants as loads
 use Rattle.apei_hest.specs.declared.source.Ghes.{Ghes}
+use Rattle.apei_hest.specs.declared.source.Source.{Source}
 use Rattle.ghes_replay.specs.declared.line.Line.{Line}
 use Rattle.ghes_replay.specs.declared.line.What.{What}
 use Rattle.ghes_replay.specs.declared.line.What.TheVariants.{Raise, Nmi, Work}
@@ -14,8 +15,10 @@ use Rattle.ghes_replay.specs.declared.exit.Refusal.TheVariants as refusals
 use Rattle.ghes_replay.specs.Kept.{Kept}
 use Rattle.ghes_replay.specs.Script.{IsLineOf, IsOfFirst, SpellsFrom}
 use Rattle.ghes_replay.specs.Seen.{FilesSeen, Loads, IsLoaded}
-use Rattle.ghes_replay.specs.Loading.{HasTable, ScriptCause, LoadsTable, LoadsScript}
-use Rattle.ghes_replay.specs.Run.{ReplayCause, RunsLines, Replays}
+use Rattle.ghes_replay.specs.Served.{served}
+use Rattle.ghes_replay.specs.Task.{Replay}
+use Rattle.ghes_replay.specs.Loading.{HasTable, HestCause, ScriptCause, LoadsHest, LoadsScript}
+use Rattle.ghes_replay.specs.Run.{ReplayCause, RunsLines, LoadsSource, Does}
 use Rattle.ghes_replay.proofs.LoadLemmas.{loads_weaker, loads_both}
 
 -- the lines of a script are of the first source
@@ -44,6 +47,7 @@ cause_earlier before middle after name ghes (refusals.Load files.Script loads.To
 cause_earlier before middle after name ghes (refusals.Load files.Script loads.OutOfMemory) same grows unfailed cause = cause
 cause_earlier before middle after name ghes (refusals.Load files.Hest why) same grows unfailed cause = cause
 cause_earlier before middle after name ghes (refusals.Hest error) same grows unfailed cause = cause
+cause_earlier before middle after name ghes refusals.NotBuilt same grows unfailed cause = cause
 cause_earlier before middle after name ghes (refusals.Script line) same grows unfailed cause =
     (cause.0, loaded_earlier before middle name 16777216 cause.0 same cause.1, cause.2)
 cause_earlier before middle after name ghes refusals.Usage same grows unfailed cause = cause
@@ -60,12 +64,13 @@ cause_of_script : (before after : FilesSeen) (hest script : List ℕ) (ghes : Gh
 cause_of_script before after hest script ghes (refusals.Load files.Script why) table cause = (ghes, table, cause)
 cause_of_script before after hest script ghes (refusals.Load files.Hest why) table cause = absurd cause
 cause_of_script before after hest script ghes (refusals.Hest error) table cause = absurd cause
+cause_of_script before after hest script ghes refusals.NotBuilt table cause = absurd cause
 cause_of_script before after hest script ghes (refusals.Script line) table cause = (ghes, table, cause)
 cause_of_script before after hest script ghes refusals.Usage table cause = cause
 cause_of_script before after hest script ghes refusals.OutOfMemory table cause = tt
 
 -- the script was refused
-pub replay_refused : (before middle after : FilesSeen) (hest script : List ℕ) (ghes : Ghes) (refusal : Refusal) → LoadsTable before middle hest (Ok ghes) → LoadsScript middle after script ghes (Err refusal) → Replays before after hest script (Err refusal)
+pub replay_refused : (before middle after : FilesSeen) (hest script : List ℕ) (ghes : Ghes) (refusal : Refusal) → LoadsSource before middle hest (Ok ghes) → LoadsScript middle after script ghes (Err refusal) → Does before after (Replay hest script) (Err refusal)
 replay_refused before middle after hest script ghes refusal table loaded = record {
   loads = loads_of_both before middle after hest script table.loads loaded.loads;
   found = tt;
@@ -74,8 +79,8 @@ replay_refused before middle after hest script ghes refusal table loaded = recor
 }
 
 -- the lines were replayed, or memory ran out
-pub replay_goes : (before middle after : FilesSeen) (hest script : List ℕ) (ghes : Ghes) (lines : List Line) (result : Result (Kept × List ℕ) Refusal) → LoadsTable before middle hest (Ok ghes) → LoadsScript middle after script ghes (Ok lines) → RunsLines ghes.id lines result → Replays before after hest script result
-replay_goes before middle after hest script ghes lines (Ok replayed) table loaded runs = record {
+pub replay_goes : (before middle after : FilesSeen) (hest script : List ℕ) (ghes : Ghes) (lines : List Line) (result : Result (Option Kept × List ℕ) Refusal) → LoadsSource before middle hest (Ok ghes) → LoadsScript middle after script ghes (Ok lines) → RunsLines ghes.id lines result → Does before after (Replay hest script) result
+replay_goes before middle after hest script ghes lines (Ok (Some ledger, text)) table loaded runs = record {
   loads = loads_of_both before middle after hest script table.loads loaded.loads;
   found = record {
     ghes = ghes;
@@ -88,6 +93,7 @@ replay_goes before middle after hest script ghes lines (Ok replayed) table loade
   };
   refused = tt;
 }
+replay_goes before middle after hest script ghes lines (Ok (None, text)) table loaded runs = absurd runs
 replay_goes before middle after hest script ghes lines (Err refusals.OutOfMemory) table loaded runs = record {
   loads = loads_of_both before middle after hest script table.loads loaded.loads;
   found = tt;
@@ -96,4 +102,40 @@ replay_goes before middle after hest script ghes lines (Err refusals.OutOfMemory
 replay_goes before middle after hest script ghes lines (Err refusals.Usage) table loaded runs = absurd runs
 replay_goes before middle after hest script ghes lines (Err (refusals.Load file why)) table loaded runs = absurd runs
 replay_goes before middle after hest script ghes lines (Err (refusals.Hest error)) table loaded runs = absurd runs
+replay_goes before middle after hest script ghes lines (Err refusals.NotBuilt) table loaded runs = absurd runs
 replay_goes before middle after hest script ghes lines (Err (refusals.Script line)) table loaded runs = absurd runs
+
+-- the table was refused
+source_cause : (before after : FilesSeen) (hest script : List ℕ) (refusal : Refusal) → HestCause before after hest refusal → ReplayCause before after hest script refusal
+source_cause before after hest script (refusals.Load files.Hest why) cause = cause
+source_cause before after hest script (refusals.Load files.Script why) cause = absurd cause
+source_cause before after hest script (refusals.Hest error) cause = cause
+source_cause before after hest script refusals.NotBuilt cause = absurd cause
+source_cause before after hest script (refusals.Script line) cause = absurd cause
+source_cause before after hest script refusals.Usage cause = cause
+source_cause before after hest script refusals.OutOfMemory cause = tt
+
+pub source_refused : (before after : FilesSeen) (hest : List ℕ) (refusal : Refusal) → LoadsHest before after hest (Err refusal) → LoadsSource before after hest (Err refusal)
+source_refused before after hest refusal loaded = record {
+  loads = loaded.loads;
+  found = tt;
+  unfailed = tt;
+  refused = λ script. source_cause before after hest script refusal loaded.refused;
+}
+
+-- the table is accepted, and its source is served or not
+pub source_found : (before after : FilesSeen) (hest : List ℕ) (found : List Source) (ghes : Ghes) → LoadsHest before after hest (Ok found) → served found ≡ Some ghes → LoadsSource before after hest (Ok ghes)
+source_found before after hest found ghes loaded is = record {
+  loads = loaded.loads;
+  found = (found, loaded.found, is);
+  unfailed = loaded.unfailed;
+  refused = tt;
+}
+
+pub source_not_built : (before after : FilesSeen) (hest : List ℕ) (found : List Source) → LoadsHest before after hest (Ok found) → served found ≡ None → LoadsSource before after hest (Err refusals.NotBuilt)
+source_not_built before after hest found loaded none = record {
+  loads = loaded.loads;
+  found = tt;
+  unfailed = tt;
+  refused = λ script. (found, loaded.found, none);
+}

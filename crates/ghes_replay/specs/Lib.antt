@@ -1,5 +1,6 @@
 pub mod Blocks
 pub mod Call
+pub mod Check
 pub mod Execute
 pub mod Fates
 pub mod History
@@ -12,6 +13,9 @@ pub mod Refusal
 pub mod Run
 pub mod Script
 pub mod Seen
+pub mod Served
 pub mod Spelling
+pub mod Task
 pub mod Text
+pub mod Told
 pub mod Views

@@ -13,6 +13,7 @@ use Rattle.ghes_replay.specs.declared.exit.Refusal.TheVariants as refusals
 abbrev pub status_of : Refusal → ℕ
 status_of refusals.Usage = 2
 status_of (refusals.Hest error) = 3
+status_of refusals.NotBuilt = 3
 status_of (refusals.Script line) = 4
 status_of (refusals.Load file why) = 5
 status_of refusals.OutOfMemory = 7
@@ -48,10 +49,24 @@ script_line line = codes "ghes: script: line " ++ decimal line ++ codes ": 1 com
 abbrev pub memory_line : List ℕ
 memory_line = codes "ghes: out of memory\n"
 
--- the line of a refusal
-abbrev pub line_of : List (List ℕ) → Refusal → List ℕ
-line_of words refusals.Usage = usage_line
-line_of words (refusals.Load file why) = load_line (file_name words file) (load_error_text why)
-line_of words (refusals.Hest error) = hest_line (hest_error_text error)
-line_of words (refusals.Script line) = script_line line
-line_of words refusals.OutOfMemory = memory_line
+-- the line for a table whose sources are not served so far
+abbrev pub not_built_line : List ℕ
+not_built_line = codes "ghes: hest: 9 not built\n"
+
+-- the line of a refusal, by the name of the file that it is about
+abbrev pub line_of : List ℕ → Refusal → List ℕ
+line_of name refusals.Usage = usage_line
+line_of name (refusals.Load file why) = load_line name (load_error_text why)
+line_of name (refusals.Hest error) = hest_line (hest_error_text error)
+line_of name refusals.NotBuilt = not_built_line
+line_of name (refusals.Script line) = script_line line
+line_of name refusals.OutOfMemory = memory_line
+
+-- the word of the command line that names the file that a refusal is about
+abbrev pub refused_word : List (List ℕ) → Refusal → List ℕ
+refused_word words (refusals.Load file why) = file_name words file
+refused_word words refusals.Usage = []
+refused_word words (refusals.Hest error) = file_name words files.Hest
+refused_word words refusals.NotBuilt = file_name words files.Hest
+refused_word words (refusals.Script line) = file_name words files.Script
+refused_word words refusals.OutOfMemory = []

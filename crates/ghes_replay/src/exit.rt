@@ -1,7 +1,7 @@
 ghost use Rattle.std.specs.Prelude.{◌≡◌, IfOk, map};
 ghost use Rattle.std.specs.String.{string_bytes};
 ghost use Rattle.apei_hest.specs.Text.{hest_error_text};
-ghost use Rattle.ghes_replay.specs.Refusal.{status_of, file_name, load_error_text, load_line, hest_line, script_line, line_of};
+ghost use Rattle.ghes_replay.specs.Refusal.{status_of, file_name, load_error_text, load_line, hest_line, script_line, line_of, refused_word};
 
 use apei_hest::HestError;
 use ghes_outside::LoadError;
@@ -23,6 +23,8 @@ pub enum Refusal {
     Load(InputFile, LoadError),
     /// The table is refused. Status 3.
     Hest(HestError),
+    /// The table is accepted, and a replay does not serve its sources so far. Status 3.
+    NotBuilt,
     /// The script's line of this number, from 1 on, is its first bad one. Status 4.
     Script(u32),
     /// Status 7.
@@ -89,22 +91,34 @@ fn script_line(alloc: Global, line: u32) -> Result<String, AllocError>
 }
 
 impl Refusal {
+    /// The word of the command line that names the file that the refusal is about, empty where it is about none.
+    pub(crate) fn word(self, words: &[String]) -> &str
+        ensures { result.now ≡ refused_word (map string_bytes words.now) self }
+    {
+        match self {
+            Refusal::Load(file, _) => file_name(words, file),
+            Refusal::Hest(_) | Refusal::NotBuilt => file_name(words, InputFile::Hest),
+            Refusal::Script(_) => file_name(words, InputFile::Script),
+            Refusal::Usage | Refusal::OutOfMemory => "",
+        }
+    }
+
     /// The status that the program ends with.
     pub fn status(self) -> u8
         ensures { result ≡ status_of self }
     {
         match self {
             Refusal::Usage => 2,
-            Refusal::Hest(_) => 3,
+            Refusal::Hest(_) | Refusal::NotBuilt => 3,
             Refusal::Script(_) => 4,
             Refusal::Load(_, _) => 5,
             Refusal::OutOfMemory => 7,
         }
     }
 
-    /// The line that is put, where `words` are the words of the command line.
-    pub fn line(self, alloc: Global, words: &[String]) -> Result<String, AllocError>
-        ensures { IfOk result (λ line. string_bytes line ≡ line_of (map string_bytes words.now) self) }
+    /// The line that is put, where `name` is the name of the file that the refusal is about.
+    pub fn line(self, alloc: Global, name: &str) -> Result<String, AllocError>
+        ensures { IfOk result (λ line. string_bytes line ≡ line_of name.now self) }
     {
         match self {
             Refusal::Usage => String::from_str(
@@ -112,9 +126,10 @@ impl Refusal {
                 "ghes: usage: replay HEST EINJ SCRIPT | check HEST EINJ | decode BLOCK | load N\n",
             ),
             Refusal::Load(file, why) => {
-                load_line(alloc, file_name(words, file), load_word(why))
+                load_line(alloc, name, load_word(why))
             },
             Refusal::Hest(error) => hest_line(alloc, error),
+            Refusal::NotBuilt => String::from_str(alloc, "ghes: hest: 9 not built\n"),
             Refusal::Script(line) => script_line(alloc, line),
             Refusal::OutOfMemory => String::from_str(alloc, "ghes: out of memory\n"),
         }

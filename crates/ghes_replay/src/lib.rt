@@ -3,6 +3,8 @@
 
 mod blocks;
 mod call;
+mod check;
+mod doing;
 mod execute;
 mod exit;
 mod forms;
@@ -15,6 +17,8 @@ mod putting;
 mod run;
 mod script;
 mod script_run;
+mod served;
+mod task;
 #[cfg(test)]
 mod tests;
 mod text;
@@ -24,4 +28,4 @@ pub use laws::{a_ledger_tells_one_history, a_script_is_read_in_one_way, each_blo
 pub use ledger::{AckState, Call, Ledger, Mark, Outcome, Reply, Report, Reported, Taken};
 pub use line::{Line, What};
 pub use pending::Packet;
-pub use run::{RunEnd, ghes_run};
+pub use run::{RunEnd, check_run, ghes_run};

@@ -1,11 +1,11 @@
 ghost use Rattle.std.specs.Prelude.{◌≡◌, ◌<◌, ◌^◌, ◌-◌, length};
 ghost use Rattle.ghes_replay.specs.Seen.{files_seen};
-ghost use Rattle.ghes_replay.specs.Loading.{LoadsTable, LoadsScript, ReadsTable, ReadsLines, load_refusal};
+ghost use Rattle.ghes_replay.specs.Loading.{LoadsHest, LoadsScript, ReadsHest, ReadsLines, load_refusal};
 ghost use Rattle.ghes_replay.specs.Views.{lines_of};
 
 use crate::script::{ScriptError, read_script};
 use crate::{InputFile, Line, Refusal};
-use apei_hest::{Ghes, Hest, HestError, Source};
+use apei_hest::{Ghes, Hest, HestError};
 use ghes_outside::{Files, LoadError};
 use std::alloc::Global;
 
@@ -14,15 +14,12 @@ const TABLE_LIMIT: usize = 1048576;
 /// How many bytes a script may have.
 const SCRIPT_LIMIT: usize = 16777216;
 
-// The one source of the table that the bytes are.
-fn read_table(alloc: Global, bytes: &[u8]) -> Result<Ghes, Refusal>
-    ensures { ReadsTable bytes.now result }
+// The table that the bytes are.
+fn read_hest(alloc: Global, bytes: &[u8]) -> Result<Hest, Refusal>
+    ensures { ReadsHest bytes.now result }
 {
     match Hest::read(alloc, bytes) {
-        Ok(hest) => match hest.sources() {
-            [Source::Ghes(ghes)] => Ok(*ghes),
-            _ => Err(Refusal::Hest(HestError::NotBuilt)),
-        },
+        Ok(hest) => Ok(hest),
         Err(HestError::OutOfMemory) => Err(Refusal::OutOfMemory),
         Err(error) => Err(Refusal::Hest(error)),
     }
@@ -50,20 +47,20 @@ fn load_refusal(file: InputFile, why: LoadError) -> Refusal
     }
 }
 
-/// Loads the table and reads its one source.
-pub(crate) fn load_table<F: Files>(
+/// Loads a table and reads its sources.
+pub(crate) fn load_hest<F: Files>(
     alloc: Global,
     files: &mut F,
     name: &str,
-) -> Result<Ghes, Refusal>
-    ensures { LoadsTable
+) -> Result<Hest, Refusal>
+    ensures { LoadsHest
         (files_seen (F.contents files.old) (F.failed files.old) (F.faults files.old))
         (files_seen (F.contents files.new) (F.failed files.new) (F.faults files.new))
         name.now result }
 {
     let mut bytes = Vec::new(alloc);
     match files.load(name, &mut bytes, TABLE_LIMIT) {
-        Ok(()) => read_table(alloc, &bytes),
+        Ok(()) => read_hest(alloc, &bytes),
         Err(why) => Err(load_refusal(InputFile::Hest, why)),
     }
 }

@@ -1,17 +1,17 @@
-ghost use Rattle.std.specs.Prelude.{◌≡◌, ◌<◌, ◌^◌, ◌⊎◌, IsTrue, length, List, ℕ, MatchOption, map};
-ghost use Rattle.std.specs.List.{AllByRecursion};
+ghost use Rattle.std.specs.Prelude.{◌≡◌, ◌⊎◌, ◌∷◌, [], IsTrue, codes, map, None};
 ghost use Rattle.std.specs.String.{string_bytes};
 ghost use Rattle.ghes_replay.specs.Seen.{files_seen, sink_seen, Loads};
-ghost use Rattle.ghes_replay.specs.Run.{IsReplay, RunsLines, Replays, Answers, IsFileWord, EndsBy, PutsText, IsAccepted, is_status, HasBadTable, HasBadScript, IsUnlessFault};
+ghost use Rattle.ghes_replay.specs.Task.{Task as Asked, IsTask, IsFileWord};
+ghost use Rattle.ghes_replay.specs.Run.{Answers, RefusedBy, EndsBy, PutsText, is_status, is_check_status, IsUnlessFault};
+ghost use Rattle.ghes_replay.specs.Told.{IsAccepted, HasBadTable, HasUnserved, HasBadScript};
 ghost use Rattle.ghes_outside.specs.Outside.{Rose};
-ghost use Rattle.ghes_replay.specs.Script.{IsOfFirst};
-ghost use Rattle.ghes_replay.specs.Views.{replayed_of};
+ghost use Rattle.ghes_replay.specs.Views.{done_of};
 
+use crate::Ledger;
+use crate::doing::{Done, check, replay};
 use crate::exit::{MEMORY_LINE, Refusal};
-use crate::loading::{load_script, load_table};
 use crate::putting::end_with;
-use crate::script_run::{Replayed, run_script};
-use crate::{Ledger, Line};
+use crate::task::{Task, task_of};
 use ghes_outside::{Files, Sink};
 use std::alloc::Global;
 
@@ -24,62 +24,28 @@ pub struct RunEnd {
     pub ledger: Option<Ledger>,
 }
 
-// Replays the lines of a script on the source with this id.
-fn replay_lines(alloc: Global, id: u16, lines: &[Line]) -> Result<Replayed, Refusal>
-    requires few { length lines.now < 2 ^ 32 }
-    requires first { AllByRecursion (λ line. IsOfFirst line.what) lines.now }
-    ensures { RunsLines id lines.now (replayed_of result) }
-{
-    match run_script(alloc, id, lines) {
-        Ok(replayed) => Ok(replayed),
-        Err(_) => Err(Refusal::OutOfMemory),
-    }
-}
-
-// Replays the script of one file on the table of another.
-fn replay<F: Files>(
-    alloc: Global,
-    files: &mut F,
-    hest: &str,
-    script: &str,
-) -> Result<Replayed, Refusal>
-    ensures { Replays
-        (files_seen (F.contents files.old) (F.failed files.old) (F.faults files.old))
-        (files_seen (F.contents files.new) (F.failed files.new) (F.faults files.new))
-        hest.now script.now (replayed_of result) }
-{
-    let ghes = load_table(alloc, files, hest)?;
-    match load_script(alloc, files, script, &ghes) {
-        Ok(lines) => replay_lines(alloc, ghes.id, &lines),
-        Err(refusal) => Err(refusal),
-    }
-}
-
-// The names of the table and of the script in the words `replay HEST - SCRIPT`.
-fn replay_names(words: &[String]) -> Option<(&str, &str)>
-    ensures { MatchOption result
-        ((hest script : List ℕ) → IsReplay (map string_bytes words.now) hest script → ⊥)
-        (λ names. IsReplay (map string_bytes words.now) names.0.now names.1.now) }
-{
-    let [command, hest, einj, script] = words else {
-        return None;
-    };
-    if command.as_str() != "replay" || einj.as_str() != "-" {
-        return None;
-    }
-    Some((hest.as_str(), script.as_str()))
-}
-
 // What the words ask for.
-fn answer<F: Files>(alloc: Global, words: &[String], files: &mut F) -> Result<Replayed, Refusal>
+fn answer<F: Files>(alloc: Global, words: &[String], files: &mut F) -> Result<Done, Refusal>
     ensures { Answers (map string_bytes words.now)
         (files_seen (F.contents files.old) (F.failed files.old) (F.faults files.old))
         (files_seen (F.contents files.new) (F.failed files.new) (F.faults files.new))
-        (replayed_of result) }
+        (done_of result) }
 {
-    match replay_names(words) {
-        Some((hest, script)) => replay(alloc, files, hest, script),
+    match task_of(words) {
+        Some(Task::Replay { hest, script }) => replay(alloc, files, hest, script),
+        Some(Task::Check { hest }) => check(alloc, files, hest),
         None => Err(Refusal::Usage),
+    }
+}
+
+// Puts the line of a refusal, where `name` is the name of the file that it is about.
+fn refuse<K: Sink>(alloc: Global, out: &mut K, name: &str, refusal: Refusal) -> RunEnd
+    ensures { RefusedBy (sink_seen (K.written out.old) (K.faults out.old)) (sink_seen (K.written out.new) (K.faults out.new))
+        name.now refusal result.status result.ledger }
+{
+    match refusal.line(alloc, name) {
+        Ok(line) => end_with(out, line.as_bytes(), refusal.status(), None),
+        Err(_) => end_with(out, MEMORY_LINE, 7, None),
     }
 }
 
@@ -95,32 +61,30 @@ fn run<F: Files, K: Sink>(alloc: Global, words: &[String], files: &mut F, out: &
         (files_seen (F.contents files.new) (F.failed files.new) (F.faults files.new)) }
 {
     match answer(alloc, words, files) {
-        Ok(Replayed { ledger, text }) => end_with(out, &text, 0, Some(ledger)),
-        Err(refusal) => match refusal.line(alloc, words) {
-            Ok(line) => end_with(out, line.as_bytes(), refusal.status(), None),
-            Err(_) => end_with(out, MEMORY_LINE, 7, None),
-        },
+        Ok(Done { ledger, text }) => end_with(out, &text, 0, ledger),
+        Err(refusal) => refuse(alloc, out, refusal.word(words), refusal),
     }
 }
 
 /// Runs the program: does what the words after the program's name ask for, with these files and this output.
 ///
-/// So far the words are `replay HEST - SCRIPT`, where HEST and SCRIPT name files of at most 1 MiB and 16 MiB.
-/// The order of the work is: the words, the table, the script; the first refusal ends the run. All text is
-/// made first, and then put in pieces of at most 4,096 bytes.
+/// So far the words are `replay HEST - SCRIPT` or `check HEST -`, where HEST and SCRIPT name files of at most 1 MiB
+/// and 16 MiB, and `-` stands for no injection table. The order of the work is: the words, the table, the script; the
+/// first refusal ends the run. All text is made first, and then put in pieces of at most 4,096 bytes.
 pub fn ghes_run<F: Files, K: Sink>(
     alloc: Global,
     words: &[String],
     files: &mut F,
     out: &mut K,
 ) -> RunEnd
-    // How it ends: with the text of a lawful ledger, or with the line of a refusal that has its cause.
+    // How it ends: with the text of what was done, which is that of a lawful ledger or of an accepted table, or with the
+    // line of a refusal that has its cause.
     ensures ends { EndsBy (map string_bytes words.now)
         (files_seen (F.contents files.old) (F.failed files.old) (F.faults files.old))
         (files_seen (F.contents files.new) (F.failed files.new) (F.faults files.new))
         (sink_seen (K.written out.old) (K.faults out.old)) (sink_seen (K.written out.new) (K.faults out.new))
         result.status result.ledger }
-    // Status 0 is a replay whose ledger is lawful, and the bytes put are its text.
+    // At status 0 what was asked for is done, and the bytes put are its text; a replay has a ledger, which is lawful.
     ensures done { result.status ≡ 0 → PutsText (map string_bytes words.now)
         (files_seen (F.contents files.old) (F.failed files.old) (F.faults files.old))
         (sink_seen (K.written out.old) (K.faults out.old)) (sink_seen (K.written out.new) (K.faults out.new))
@@ -131,17 +95,19 @@ pub fn ghes_run<F: Files, K: Sink>(
     ensures loads { Loads (IsFileWord (map string_bytes words.now))
         (files_seen (F.contents files.old) (F.failed files.old) (F.faults files.old))
         (files_seen (F.contents files.new) (F.failed files.new) (F.faults files.new)) }
-    // Words that are no replay, a refused table and a refused script get their status, unless the output fails or
-    // memory runs out.
-    ensures bad_words { ((hest script : List ℕ) → IsReplay (map string_bytes words.now) hest script → ⊥)
-        → IsUnlessFault result.status 2 }
+    // Words that ask for nothing, a refused table, one that is not served so far and a refused script get their status,
+    // unless the output fails or memory runs out.
+    ensures bad_words { ((task : Asked) → IsTask (map string_bytes words.now) task → ⊥) → IsUnlessFault result.status 2 }
     ensures bad_table { HasBadTable (map string_bytes words.now)
+        (files_seen (F.contents files.old) (F.failed files.old) (F.faults files.old))
+        (files_seen (F.contents files.new) (F.failed files.new) (F.faults files.new)) → IsUnlessFault result.status 3 }
+    ensures not_built { HasUnserved (map string_bytes words.now)
         (files_seen (F.contents files.old) (F.failed files.old) (F.faults files.old))
         (files_seen (F.contents files.new) (F.failed files.new) (F.faults files.new)) → IsUnlessFault result.status 3 }
     ensures bad_script { HasBadScript (map string_bytes words.now)
         (files_seen (F.contents files.old) (F.failed files.old) (F.faults files.old))
         (files_seen (F.contents files.new) (F.failed files.new) (F.faults files.new)) → IsUnlessFault result.status 4 }
-    // What is accepted is replayed, unless memory runs out.
+    // What is accepted is done, unless memory runs out.
     ensures complete { IsAccepted (map string_bytes words.now)
         (files_seen (F.contents files.old) (F.failed files.old) (F.faults files.old))
         (files_seen (F.contents files.new) (F.failed files.new) (F.faults files.new))
@@ -149,4 +115,79 @@ pub fn ghes_run<F: Files, K: Sink>(
         → (result.status ≡ 0) ⊎ (result.status ≡ 7) }
 {
     run(alloc, words, files, out)
+}
+
+// What the words `check HEST EINJ` ask for.
+fn answer_check<F: Files>(
+    alloc: Global,
+    hest: &str,
+    einj: &str,
+    files: &mut F,
+) -> Result<Done, Refusal>
+    ensures { Answers (codes "check" ∷ hest.now ∷ einj.now ∷ [])
+        (files_seen (F.contents files.old) (F.failed files.old) (F.faults files.old))
+        (files_seen (F.contents files.new) (F.failed files.new) (F.faults files.new))
+        (done_of result) }
+{
+    if einj == "-" {
+        check(alloc, files, hest)
+    } else {
+        Err(Refusal::Usage)
+    }
+}
+
+// Lists a table, and puts the text or the line of the refusal.
+fn list<F: Files, K: Sink>(alloc: Global, hest: &str, einj: &str, files: &mut F, out: &mut K) -> RunEnd
+    ensures ends { EndsBy (codes "check" ∷ hest.now ∷ einj.now ∷ [])
+        (files_seen (F.contents files.old) (F.failed files.old) (F.faults files.old))
+        (files_seen (F.contents files.new) (F.failed files.new) (F.faults files.new))
+        (sink_seen (K.written out.old) (K.faults out.old)) (sink_seen (K.written out.new) (K.faults out.new))
+        result.status result.ledger }
+    ensures loads { Loads (IsFileWord (codes "check" ∷ hest.now ∷ einj.now ∷ []))
+        (files_seen (F.contents files.old) (F.failed files.old) (F.faults files.old))
+        (files_seen (F.contents files.new) (F.failed files.new) (F.faults files.new)) }
+{
+    match answer_check(alloc, hest, einj, files) {
+        Ok(Done { ledger, text }) => end_with(out, &text, 0, ledger),
+        Err(refusal) => refuse(alloc, out, hest, refusal),
+    }
+}
+
+/// Lists the error sources of the table in the file `hest`, as the program does for the words `check HEST EINJ`, and
+/// gives the status.
+///
+/// So far `einj` is `-`, for no injection table; another name is refused as words that are no form of the command line.
+/// It neither waits nor starts threads, and it returns.
+pub fn check_run<F: Files, K: Sink>(
+    alloc: Global,
+    hest: &str,
+    einj: &str,
+    files: &mut F,
+    out: &mut K,
+) -> u8
+    // Each clause is that of `ghes_run` with the words `check HEST EINJ`.
+    ensures ends { EndsBy (codes "check" ∷ hest.now ∷ einj.now ∷ [])
+        (files_seen (F.contents files.old) (F.failed files.old) (F.faults files.old))
+        (files_seen (F.contents files.new) (F.failed files.new) (F.faults files.new))
+        (sink_seen (K.written out.old) (K.faults out.old)) (sink_seen (K.written out.new) (K.faults out.new))
+        result None }
+    ensures done { result ≡ 0 → PutsText (codes "check" ∷ hest.now ∷ einj.now ∷ [])
+        (files_seen (F.contents files.old) (F.failed files.old) (F.faults files.old))
+        (sink_seen (K.written out.old) (K.faults out.old)) (sink_seen (K.written out.new) (K.faults out.new)) None }
+    ensures statuses { IsTrue (is_check_status result) }
+    ensures put_failed { result ≡ 6 → Rose (K.faults out.old) (K.faults out.new) }
+    ensures loads { Loads (IsFileWord (codes "check" ∷ hest.now ∷ einj.now ∷ []))
+        (files_seen (F.contents files.old) (F.failed files.old) (F.faults files.old))
+        (files_seen (F.contents files.new) (F.failed files.new) (F.faults files.new)) }
+    ensures bad_words { (einj.now ≡ codes "-" → ⊥) → IsUnlessFault result 2 }
+    ensures bad_table { HasBadTable (codes "check" ∷ hest.now ∷ einj.now ∷ [])
+        (files_seen (F.contents files.old) (F.failed files.old) (F.faults files.old))
+        (files_seen (F.contents files.new) (F.failed files.new) (F.faults files.new)) → IsUnlessFault result 3 }
+    ensures complete { IsAccepted (codes "check" ∷ hest.now ∷ einj.now ∷ [])
+        (files_seen (F.contents files.old) (F.failed files.old) (F.faults files.old))
+        (files_seen (F.contents files.new) (F.failed files.new) (F.faults files.new))
+        (sink_seen (K.written out.old) (K.faults out.old)) (sink_seen (K.written out.new) (K.faults out.new))
+        → (result ≡ 0) ⊎ (result ≡ 7) }
+{
+    list(alloc, hest, einj, files, out).status
 }

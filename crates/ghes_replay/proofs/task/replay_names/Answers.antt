@@ -1,7 +1,7 @@
 -- The four words, by their places.
 use Rattle.std.proofs.Common.{◌≡◌, rules, sym, ◌∙◌, codes}
 use Rattle.ghes_replay.proofs.WordLemmas.{four_items, four_words}
-use Rattle.ghes_replay.proofs.run.replay_names.Goals as goal
+use Rattle.ghes_replay.proofs.task.replay_names.Goals as goal
 
 pub returns : goal.returns
 returns c =

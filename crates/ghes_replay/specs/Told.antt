@@ -1,0 +1,78 @@
+-- Runs whose files are told, and what they are then bound to answer.
+use Rattle.std.specs.Prelude.{◌≡◌, ◌≤◌, ℕ, List, length, Option, Some, None, Result, Ok, Err}
+use Rattle.apei_hest.specs.Hest.{Judges}
+use Rattle.apei_hest.specs.declared.error.HestError.{HestError}
+use Rattle.apei_hest.specs.declared.source.Ghes.{Ghes}
+use Rattle.apei_hest.specs.declared.source.Source.{Source}
+use Rattle.ghes_outside.specs.Outside.{Rose}
+use Rattle.ghes_replay.specs.declared.line.Line.{Line}
+use Rattle.ghes_replay.specs.Script.{IsScript, IsRefusedAt}
+use Rattle.ghes_replay.specs.Seen.{FilesSeen, SinkSeen, table_limit, script_limit}
+use Rattle.ghes_replay.specs.Served.{served}
+use Rattle.ghes_replay.specs.Task.{Task, Replay, Check, IsTask, table_of}
+
+-- A file is told, and within its limit.
+pub record IsTold (seen : FilesSeen) (name : List ℕ) (limit : ℕ) (bytes : List ℕ) : Type 0 where
+  pub told : seen.contents name ≡ Some bytes
+  pub within : length bytes ≤ limit
+
+-- a told table is accepted with these sources
+abbrev pub TellsHest : FilesSeen → List ℕ → List Source → Type 0
+TellsHest seen name found = (bytes : List ℕ) × IsTold seen name table_limit bytes × Judges bytes (Ok found)
+
+-- a told table is accepted, and a replay serves this source of it
+abbrev pub TellsTable : FilesSeen → List ℕ → Ghes → Type 0
+TellsTable seen name ghes = (found : List Source) × TellsHest seen name found × (served found ≡ Some ghes)
+
+-- a told script has these lines
+abbrev pub TellsScript : FilesSeen → List ℕ → Ghes → List Line → Type 0
+TellsScript seen name ghes lines = (bytes : List ℕ) × IsTold seen name script_limit bytes × IsScript ghes.id bytes lines
+
+-- all files of a task are told and accepted
+abbrev pub Accepts : FilesSeen → Task → Type 0
+Accepts seen (Replay hest script) = (ghes : Ghes) × TellsTable seen hest ghes × (lines : List Line) × TellsScript seen script ghes lines
+Accepts seen (Check hest) = (found : List Source) × TellsHest seen hest found
+
+-- a told table is refused
+abbrev pub RefusesHest : FilesSeen → List ℕ → Type 0
+RefusesHest seen name = (bytes : List ℕ) × IsTold seen name table_limit bytes × (error : HestError) × Judges bytes (Err error)
+
+-- a told table is accepted, and a replay serves none of its sources so far
+abbrev pub IsNotServed : FilesSeen → List ℕ → Type 0
+IsNotServed seen name = (found : List Source) × TellsHest seen name found × (served found ≡ None)
+
+-- The words ask for a task whose table is told and refused, and no load failed.
+pub record HasBadTable (words : List (List ℕ)) (before after : FilesSeen) : Type 0 where
+  pub task : Task
+  pub asked : IsTask words task
+  pub table : RefusesHest before (table_of task)
+  pub no_failed_load : Rose before.faults after.faults → ⊥
+
+-- The words ask for a replay on a table that is told and accepted, but not served so far, and no load failed.
+pub record HasUnserved (words : List (List ℕ)) (before after : FilesSeen) : Type 0 where
+  pub hest : List ℕ
+  pub script : List ℕ
+  pub asked : IsTask words (Replay hest script)
+  pub table : IsNotServed before hest
+  pub no_failed_load : Rose before.faults after.faults → ⊥
+
+-- The words ask for a replay of a script that is told and refused, on a table that is told and served, and no load failed.
+pub record HasBadScript (words : List (List ℕ)) (before after : FilesSeen) : Type 0 where
+  pub hest : List ℕ
+  pub script : List ℕ
+  pub asked : IsTask words (Replay hest script)
+  pub ghes : Ghes
+  pub table : TellsTable before hest ghes
+  pub bytes : List ℕ
+  pub told : IsTold before script script_limit bytes
+  pub at : ℕ
+  pub refused : IsRefusedAt ghes.id bytes at
+  pub no_failed_load : Rose before.faults after.faults → ⊥
+
+-- The words ask for a task whose files are told and accepted, and no load and no put failed.
+pub record IsAccepted (words : List (List ℕ)) (before after : FilesSeen) (sink_before sink_after : SinkSeen) : Type 0 where
+  pub task : Task
+  pub asked : IsTask words task
+  pub accepted : Accepts before task
+  pub no_failed_load : Rose before.faults after.faults → ⊥
+  pub no_failed_put : Rose sink_before.faults sink_after.faults → ⊥

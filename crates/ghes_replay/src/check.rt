@@ -1,0 +1,74 @@
+ghost use Rattle.std.specs.Prelude.{◌≡◌, ◌++◌, length, is_some, OnOk, IfOk};
+ghost use Rattle.std.specs.String.{string_bytes};
+ghost use Rattle.std.specs.List.{flat_map};
+ghost use Rattle.ghes_replay.specs.Check.{form_text, ghes_line, skipped_line, source_text, hest_count_line, check_text};
+
+use apei_hest::{Ghes, Source};
+use std::alloc::{AllocError, Global};
+
+// The version of a generic source, and whether it is enabled.
+fn form_word(ghes: &Ghes) -> &'static str
+    ensures { result.now ≡ form_text (is_some ghes.now.ack) ghes.now.enabled }
+{
+    match (ghes.ack.is_some(), ghes.enabled) {
+        (false, false) => "ghes disabled",
+        (false, true) => "ghes enabled",
+        (true, false) => "ghesv2 disabled",
+        (true, true) => "ghesv2 enabled",
+    }
+}
+
+// The line of a generic source, by the words for its form.
+fn ghes_line(alloc: Global, form: &str, ghes: &Ghes) -> Result<String, AllocError>
+    ensures { IfOk result (λ line. string_bytes line ≡ ghes_line form.now ghes.now) }
+{
+    let (id, at, kind, length) = (ghes.id, ghes.at, ghes.notify.kind, ghes.block_length);
+    format!(in alloc; "{id} at {at}: {form}, notification {kind}, block length {length}\n")
+}
+
+// The line of a structure whose contents are not read.
+fn skipped_line(alloc: Global, kind: u16, id: u16, at: u32, length: u32) -> Result<String, AllocError>
+    ensures { IfOk result (λ line. string_bytes line ≡ skipped_line kind id at length) }
+{
+    format!(in alloc; "{id} at {at}: type {kind}, length {length}\n")
+}
+
+// The line of a source.
+fn source_line(alloc: Global, source: &Source) -> Result<String, AllocError>
+    ensures { IfOk result (λ line. string_bytes line ≡ source_text source.now) }
+{
+    match source {
+        Source::Skipped { kind, id, at, length } => skipped_line(alloc, *kind, *id, *at, *length),
+        Source::Ghes(ghes) => ghes_line(alloc, form_word(ghes), ghes),
+    }
+}
+
+// Appends the lines of the sources.
+fn sources_text(alloc: Global, into: &mut Vec<u8>, found: &[Source]) -> Result<(), AllocError>
+    ensures { OnOk result (into.new.items ≡ into.old.items ++ flat_map source_text found.now) }
+{
+    for source in found {
+        let line = source_line(alloc, source)?;
+        into.extend_from_slice(line.as_bytes())?;
+    }
+    Ok(())
+}
+
+// The line of a table, by how many sources it has.
+fn hest_count_line(alloc: Global, count: usize) -> Result<String, AllocError>
+    ensures { IfOk result (λ line. string_bytes line ≡ hest_count_line count) }
+{
+    format!(in alloc; "hest: {count} sources\n")
+}
+
+/// The listing of a table without an injection table.
+pub(crate) fn check_text(alloc: Global, found: &[Source]) -> Result<Vec<u8>, AllocError>
+    ensures { IfOk result (λ text. text.items ≡ check_text found.now) }
+{
+    let mut text = Vec::new(alloc);
+    let line = hest_count_line(alloc, found.len())?;
+    text.extend_from_slice(line.as_bytes())?;
+    sources_text(alloc, &mut text, found)?;
+    text.extend_from_slice(b"einj: none\n")?;
+    Ok(text)
+}

@@ -1,0 +1,89 @@
+//! Does what is asked for, and gives the whole text.
+ghost use Rattle.std.specs.Prelude.{◌≡◌, ◌<◌, ◌^◌, length};
+ghost use Rattle.std.specs.List.{AllByRecursion};
+ghost use Rattle.ghes_replay.specs.Seen.{files_seen};
+ghost use Rattle.ghes_replay.specs.Task.{Replay, Check};
+ghost use Rattle.ghes_replay.specs.Run.{RunsLines, LoadsSource, Does};
+ghost use Rattle.ghes_replay.specs.Script.{IsOfFirst};
+ghost use Rattle.ghes_replay.specs.Views.{done_of};
+
+use crate::check::check_text;
+use crate::loading::{load_hest, load_script};
+use crate::script_run::{Replayed, run_script};
+use crate::served::served;
+use crate::{Ledger, Line, Refusal};
+use apei_hest::Ghes;
+use ghes_outside::Files;
+use std::alloc::Global;
+
+/// What was done: the ledger, where it was a replay, and the whole output.
+#[derive(Drop)]
+pub(crate) struct Done {
+    pub ledger: Option<Ledger>,
+    pub text: Vec<u8>,
+}
+
+// Replays the lines of a script on the source with this id.
+fn replay_lines(alloc: Global, id: u16, lines: &[Line]) -> Result<Done, Refusal>
+    requires few { length lines.now < 2 ^ 32 }
+    requires first { AllByRecursion (λ line. IsOfFirst line.what) lines.now }
+    ensures { RunsLines id lines.now (done_of result) }
+{
+    match run_script(alloc, id, lines) {
+        Ok(Replayed { ledger, text }) => Ok(Done {
+            ledger: Some(ledger),
+            text,
+        }),
+        Err(_) => Err(Refusal::OutOfMemory),
+    }
+}
+
+// The source of the table in a file that a replay serves.
+fn load_source<F: Files>(alloc: Global, files: &mut F, hest: &str) -> Result<Ghes, Refusal>
+    ensures { LoadsSource
+        (files_seen (F.contents files.old) (F.failed files.old) (F.faults files.old))
+        (files_seen (F.contents files.new) (F.failed files.new) (F.faults files.new))
+        hest.now result }
+{
+    let found = load_hest(alloc, files, hest)?;
+    match served(found.sources()) {
+        Some(ghes) => Ok(ghes),
+        None => Err(Refusal::NotBuilt),
+    }
+}
+
+/// Replays the script of one file on the table of another.
+pub(crate) fn replay<F: Files>(
+    alloc: Global,
+    files: &mut F,
+    hest: &str,
+    script: &str,
+) -> Result<Done, Refusal>
+    ensures { Does
+        (files_seen (F.contents files.old) (F.failed files.old) (F.faults files.old))
+        (files_seen (F.contents files.new) (F.failed files.new) (F.faults files.new))
+        (Replay hest.now script.now) (done_of result) }
+{
+    let ghes = match load_source(alloc, files, hest) {
+        Ok(ghes) => ghes,
+        Err(refusal) => return Err(refusal),
+    };
+    match load_script(alloc, files, script, &ghes) {
+        Ok(lines) => replay_lines(alloc, ghes.id, &lines),
+        Err(refusal) => Err(refusal),
+    }
+}
+
+/// Lists the table of a file.
+pub(crate) fn check<F: Files>(alloc: Global, files: &mut F, hest: &str) -> Result<Done, Refusal>
+    ensures { Does
+        (files_seen (F.contents files.old) (F.failed files.old) (F.faults files.old))
+        (files_seen (F.contents files.new) (F.failed files.new) (F.faults files.new))
+        (Check hest.now) (done_of result) }
+{
+    let found = load_hest(alloc, files, hest)?;
+    match check_text(alloc, found.sources()) {
+        Ok(text) => Ok(Done { ledger: None, text }),
+        Err(_) => Err(Refusal::OutOfMemory),
+    }
+}
