@@ -1,5 +1,5 @@
 -- What a walk over the structures of a table says of the table.
-use Rattle.std.proofs.Common.{◌≡◌, ◌≤◌, ◌<◌, ℕ, ◌+◌, ◌^◌, ◌==◌, Bool, true, false, cond, List, [], length, drop, slice_index, get_or, nat_lt, codes, refl, sym, ap, subst, ◌∙◌, arith, Option, Some, None, Result, Ok, Err}
+use Rattle.std.proofs.Common.{◌≡◌, ◌≤◌, ◌<◌, ℕ, ◌+◌, ◌^◌, ◌==◌, true, false, cond, List, [], length, drop, slice_index, nat_lt, codes, sym, ap, subst, ◌∙◌, arith, Some, None, Result, Ok, Err}
 use Rattle.std.specs.Option.{option_or}
 use Rattle.std.specs.Result.{IsErrAnd}
 use Rattle.std.proofs.lemmas.List.{get_or-drop}
@@ -9,7 +9,6 @@ use Rattle.byteorder.specs.Numbers.{little_from-lt}
 use Rattle.apei_base.specs.Cut.{joined}
 use Rattle.apei_base.specs.Number.{number_at}
 use Rattle.apei_base.specs.Table.{IsTable, sdt_refusal}
-use Rattle.apei_hest.specs.Source.{sources_from}
 use Rattle.apei_hest.specs.Refusal.{AreAccepted}
 use Rattle.apei_hest.specs.Hest.{refusal_at, counted, refused, answer_at, Walks, no_table, front_refusal, JudgedBy, Judges, HasCause, Reads}
 use Rattle.apei_hest.specs.Admitted.{IsWalked, StopsWith}

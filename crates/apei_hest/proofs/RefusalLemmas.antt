@@ -1,5 +1,5 @@
 -- What is known of a source that is not refused.
-use Rattle.std.proofs.Common.{◌≡◌, ◌<◌, ◌≤◌, ℕ, ◌==◌, Bool, true, false, cond, leb, List, length, refl, sym, ap, ◌∙◌, arith, Option, Some, None}
+use Rattle.std.proofs.Common.{◌≡◌, ◌<◌, ℕ, Bool, true, false, cond, List, length, refl, sym, ap, ◌∙◌, arith, Option, Some, None}
 use Rattle.std.specs.Prelude.{nat_le}
 use Rattle.std.proofs.lemmas.Bool.Decides.{nat_tests}
 use Rattle.apei_hest.specs.Refusal.{enabled, has_id, enabled_refusal, source_refusal}
@@ -10,11 +10,11 @@ use Rattle.apei_hest.specs.declared.source.Source.{Source}
 use Rattle.apei_hest.specs.declared.source.Source.TheVariants as sources
 
 -- where no refusal comes, its test is false and no later one comes
-none_of : (b : Bool) (error : HestError) (later : Option HestError) → cond b (Some error) later ≡ None → (b ≡ false) × (later ≡ None)
+pub none_of : (b : Bool) (error : HestError) (later : Option HestError) → cond b (Some error) later ≡ None → (b ≡ false) × (later ≡ None)
 none_of true error later none = absurd cc
 none_of false error later none = (refl, none)
 
-below_of : (n : ℕ) → nat_le 64 n ≡ false → n < 64
+pub below_of : (n : ℕ) → nat_le 64 n ≡ false → n < 64
 below_of n above = grind (arith, nat_tests)
 
 -- an accepted source has an id of its own

@@ -1,8 +1,8 @@
 -- A structure's length is read from its own bytes, whatever follows.
-use Rattle.std.proofs.Common.{◌≡◌, ◌≤◌, ◌<◌, ℕ, ◌+◌, ◌*◌, ◌==◌, Bool, true, false, cond, List, ◌++◌, length, take, drop, slice_index, get_or, refl, sym, ap, ◌∙◌, arith, Option, Some, None, unwrap_or}
-use Rattle.std.proofs.lemmas.List.{length-append, length-take-le, get_or_append_left, take-append-drop, take_at}
+use Rattle.std.proofs.Common.{◌≡◌, ◌≤◌, ◌<◌, ℕ, ◌+◌, ◌*◌, ◌==◌, Bool, true, false, cond, List, ◌++◌, length, take, drop, slice_index, refl, sym, ap, ◌∙◌, arith, Option, Some, None, unwrap_or}
+use Rattle.std.proofs.lemmas.List.{length-take-le, get_or_append_left, take-append-drop, take_at}
 use Rattle.byteorder.specs.Numbers.{little_from-append}
-use Rattle.apei_hest.specs.Structure.{type_of, with_banks, structure_length, IsStructure, structure_at}
+use Rattle.apei_hest.specs.Structure.{type_of, structure_length, IsStructure, structure_at}
 
 -- the length by the type, with the bank counts at 32 and 44
 unfoldable by_type : ℕ → ℕ → ℕ → Option ℕ

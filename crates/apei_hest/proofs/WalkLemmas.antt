@@ -1,11 +1,10 @@
 -- Structures that are walked over, one more at a time.
-use Rattle.std.proofs.Common.{◌≡◌, ◌≤◌, ◌<◌, ℕ, ◌+◌, ◌-◌, List, [], ◌∷◌, ◌++◌, length, take, drop, refl, sym, ap, subst, ◌∙◌, arith, append_assoc, append-nil, Option, Some, None, Result, Ok, Err, unwrap_or}
-use Rattle.std.specs.List.{flat_map}
+use Rattle.std.proofs.Common.{◌≡◌, ◌≤◌, ◌<◌, ℕ, ◌+◌, ◌-◌, List, [], ◌∷◌, ◌++◌, length, take, drop, refl, sym, ap, subst, ◌∙◌, arith, append_assoc, append-nil, Some, None, Result, Ok, Err, unwrap_or}
 use Rattle.std.specs.Option.{option_or}
 use Rattle.std.specs.Result.{IsErrAnd}
 use Rattle.std.proofs.lemmas.List.{length-append, length-drop, length-take-le, length_push}
 use Rattle.std.proofs.lemmas.List.Concat.{flat_map-append}
-use Rattle.apei_base.specs.Cut.{joined, CutsInto}
+use Rattle.apei_base.specs.Cut.{joined}
 use Rattle.apei_base.proofs.CutLemmas.{cuts_more, cuts_length}
 use Rattle.apei_hest.specs.Structure.{IsStructure, structure_length, structure_at, structure_refusal}
 use Rattle.apei_hest.specs.Source.{source_of, sources_from}
