@@ -1,0 +1,7 @@
+pub mod KnownLemmas
+pub mod JudgeLemmas
+pub mod LawLemmas
+pub mod RefusalLemmas
+pub mod SoundLemmas
+pub mod StructureLemmas
+pub mod WalkLemmas

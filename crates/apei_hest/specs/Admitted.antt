@@ -1,18 +1,19 @@
 -- Sources that were read so far, and one more.
-use Rattle.std.specs.Prelude.{◌≡◌, ◌<◌, ◌≤◌, ℕ, ◌+◌, List, [], ◌∷◌, ◌++◌, length, Option, Some, None, Result, Ok, Err}
+use Rattle.std.specs.Prelude.{◌≡◌, ◌<◌, ◌≤◌, ℕ, ◌+◌, List, [], ◌∷◌, ◌++◌, length, Some, None, Result, Ok, Err}
 use Rattle.std.specs.Ordering.{nat_cmp}
 use Rattle.std.specs.BTreeSet.{BTreeSet, contains}
 use Rattle.apei_base.specs.Cut.{joined, CutsInto}
 use Rattle.apei_hest.specs.Hest.{refusal_at, HasCause}
-use Rattle.apei_hest.specs.Refusal.{has_id, source_refusal, AreAccepted}
+use Rattle.apei_hest.specs.Refusal.{enabled, has_id, source_refusal, AreAccepted}
 use Rattle.apei_hest.specs.Source.{sources_from}
 use Rattle.apei_hest.specs.Structure.{IsStructure}
 use Rattle.apei_hest.specs.declared.error.HestError.{HestError}
 use Rattle.apei_hest.specs.declared.source.Source.{Source}
 
--- the set has the ids of the generic sources
-abbrev pub HasIds : BTreeSet ℕ → List Source → Type 0
-HasIds ids found = (id : ℕ) → contains nat_cmp ids id ≡ has_id id found
+-- The set has the ids of the generic sources, and so many of these are enabled.
+pub record Knows (ids : BTreeSet ℕ) (count : ℕ) (found : List Source) : Type 0 where
+  pub ids_of : (id : ℕ) → contains nat_cmp ids id ≡ has_id id found
+  pub count_of : count ≡ length (enabled found)
 
 -- what one source more answers behind these: it is the last one now, or it is refused
 abbrev pub Admits : List Source → Source → Result (List Source) HestError → Type 0

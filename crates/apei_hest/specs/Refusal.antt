@@ -1,5 +1,5 @@
 -- Why a source is refused behind other sources of its table.
-use Rattle.std.specs.Prelude.{◌≡◌, ℕ, ◌&&◌, ◌==◌, nat_lt, nat_le, if◌then◌else◌, Bool, List, [], ◌∷◌, ◌++◌, length, Option, Some, None}
+use Rattle.std.specs.Prelude.{◌≡◌, ℕ, ◌==◌, nat_lt, nat_le, if◌then◌else◌, Bool, List, [], ◌∷◌, ◌++◌, length, Option, Some, None}
 use Rattle.std.specs.List.{flat_map, filter, list_any}
 use Rattle.std.specs.Option.{option_or}
 use Rattle.apei_base.specs.Region.{gas_refusal}
@@ -44,7 +44,7 @@ abbrev pub enabled_refusal : ℕ → Ghes → Option HestError
 enabled_refusal before ghes =
     if nat_le 64 before then Some TooMany
     else option_or (register_refusal ghes.id (gas_refusal ghes.status))
-      (option_or (ack_refusal ghes.id ghes.ack) (if nat_lt ghes.block_length 20 then Some (BlockLength ghes.id) else None))
+    (option_or (ack_refusal ghes.id ghes.ack) (if nat_lt ghes.block_length 20 then Some (BlockLength ghes.id) else None))
 
 -- why a source is refused behind others of its table, the first reason: a generic source has the id of another one,
 -- enabled or not, or it is enabled and refused as such; no other source is refused (own choice)

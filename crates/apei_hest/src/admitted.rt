@@ -1,5 +1,5 @@
 //! The sources so far, and what the next one is judged by.
-ghost use Rattle.std.specs.Prelude.{◌≡◌, [], ◌∷◌, ◌++◌, IfOk, IfErr};
+ghost use Rattle.std.specs.Prelude.{◌≡◌, [], ◌∷◌, ◌++◌, None, IfOk, IfErr};
 ghost use Rattle.apei_hest.specs.Refusal.{register_refusal, ack_refusal, enabled_refusal, source_refusal};
 ghost use Rattle.apei_base.specs.Region.{gas_refusal};
 ghost use Rattle.apei_hest.specs.Admitted.{Admits};
@@ -20,14 +20,13 @@ pub(crate) struct Admitted {
 }
 
 impl Model for Admitted {
-    ghost use Rattle.std.specs.Prelude.{List, length};
+    ghost use Rattle.std.specs.Prelude.{List};
     ghost use Rattle.apei_hest.specs.declared.source.Source.{Source};
-    ghost use Rattle.apei_hest.specs.Refusal.{enabled};
-    ghost use Rattle.apei_hest.specs.Admitted.{HasIds};
+    ghost use Rattle.apei_hest.specs.Admitted.{Knows};
 
     ghost Value = { List Source };
 
-    ghost invariant = { λ a. HasIds a.ids a.sources.items × (a.enabled ≡ length (enabled a.sources.items)) };
+    ghost invariant = { λ a. Knows a.ids a.enabled a.sources.items };
 
     ghost view = { λ a. a.sources.items };
 }
@@ -107,8 +106,9 @@ impl Admitted {
         }
     }
 
-    // One source more.
+    // One source more, which is not refused behind these.
     fn with(mut self, source: Source) -> Result<Admitted, HestError>
+        requires { source_refusal self source ≡ None }
         ensures found { IfOk result (λ admitted. admitted ≡ self ++ source ∷ []) }
         ensures memory { IfErr result (λ error. error ≡ OutOfMemory) }
     {

@@ -2,10 +2,10 @@ ghost use Rattle.std.specs.Prelude.{◌≡◌, ◌≤◌, ◌<◌, ◌^◌, leng
 ghost use Rattle.apei_hest.specs.Admitted.{Finds};
 
 use crate::admitted::Admitted;
+use crate::fields::u32_at;
 use crate::structure::whole_length;
 use crate::{HestError, Source};
 use apei_base::Sdt;
-use byteorder::{ByteOrder, LittleEndian};
 use std::alloc::Global;
 use std::marker::Model;
 
@@ -64,7 +64,7 @@ impl Hest {
         if bytes.len() < FIRST_STRUCTURE {
             return Err(HestError::Truncated { at: COUNT as u32 });
         }
-        let said = LittleEndian::read_u32(&bytes[COUNT..]);
+        let said = u32_at(bytes, COUNT);
         let sources = walk(alloc, bytes)?.into_sources();
         let found = sources.len() as u32;
         if said != found {

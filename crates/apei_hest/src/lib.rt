@@ -12,5 +12,8 @@ mod structure;
 
 pub use error::HestError;
 pub use hest::Hest;
-pub use laws::{a_table_is_read_in_one_way, an_accepted_table_is_its_structures};
+pub use laws::{
+    a_table_is_read_in_one_way, an_accepted_table_has_sound_sources,
+    an_accepted_table_is_its_structures,
+};
 pub use source::{Ack2, Ghes, Notify, Source};
