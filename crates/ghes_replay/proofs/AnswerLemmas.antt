@@ -1,12 +1,9 @@
 -- What the words answer, by what their task answers.
 use Rattle.std.proofs.Common.{◌≡◌, ℕ, List, Option, Result, Ok, Err, inl}
-use Rattle.std.specs.List.{AllByRecursion}
-use Rattle.ghes_outside.specs.declared.files.LoadError.TheVariants as loads
-use Rattle.ghes_replay.specs.declared.exit.InputFile.TheVariants as files
 use Rattle.ghes_replay.specs.declared.exit.Refusal.{Refusal}
 use Rattle.ghes_replay.specs.declared.exit.Refusal.TheVariants as refusals
 use Rattle.ghes_replay.specs.Kept.{Kept}
-use Rattle.ghes_replay.specs.Seen.{FilesSeen, Loads}
+use Rattle.ghes_replay.specs.Seen.{FilesSeen}
 use Rattle.ghes_replay.specs.Task.{Task, Replay, Check, IsTask, IsFileOf, IsFileWord}
 use Rattle.ghes_replay.specs.Run.{TaskCause, Cause, LoadsSource, Does, Answers}
 use Rattle.ghes_replay.proofs.LoadLemmas.{loads_weaker}

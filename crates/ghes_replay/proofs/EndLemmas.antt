@@ -1,9 +1,10 @@
 -- What follows from how a run ends: what is accepted is done, and what is refused gets its status.
-use Rattle.std.proofs.Common.{◌≡◌, ◌≤◌, ◌<◌, ◌⊎◌, ℕ, List, [], ◌∷◌, length, codes, Option, Some, None, Result, Ok, Err, inl, inr, refl, sym, ap, subst, ◌∙◌, arith}
+use Rattle.std.proofs.Common.{◌≡◌, ◌<◌, ◌⊎◌, ℕ, List, [], ◌∷◌, length, codes, Option, Some, None, Result, Ok, Err, inl, inr, refl, sym, ap, subst, ◌∙◌, arith}
 use Rattle.apei_hest.specs.Hest.{Judges}
 use Rattle.apei_hest.specs.declared.error.HestError.{HestError}
 use Rattle.apei_hest.specs.declared.source.Ghes.{Ghes}
 use Rattle.apei_hest.specs.declared.source.Source.{Source}
+use Rattle.apei_hest.proofs.LawLemmas.{one_judgement}
 use Rattle.ghes_outside.specs.Outside.{Rose, Agrees, IsLonger}
 use Rattle.ghes_outside.specs.declared.files.LoadError.TheVariants as loads
 use Rattle.ghes_replay.specs.declared.line.Line.{Line}
@@ -16,13 +17,10 @@ use Rattle.ghes_replay.specs.Script.{IsScript, IsRefusedAt}
 use Rattle.ghes_replay.specs.Seen.{FilesSeen, SinkSeen, IsLoaded}
 use Rattle.ghes_replay.specs.Served.{served}
 use Rattle.ghes_replay.specs.Task.{Task, Replay, Check, IsTask, table_of}
-use Rattle.ghes_replay.specs.Loading.{HasHest, HasTable, HasScript, HestCause}
+use Rattle.ghes_replay.specs.Loading.{HasHest, HasTable, HestCause}
 use Rattle.ghes_replay.specs.Run.{IsDone, TaskCause, Cause, WasPut, EndsBy, PutsText, IsUnlessFault}
-use Rattle.ghes_replay.specs.Told.{IsTold, TellsHest, TellsTable, TellsScript, Accepts, RefusesHest, IsNotServed, HasBadTable, HasUnserved, HasBadScript, IsAccepted}
+use Rattle.ghes_replay.specs.Told.{IsTold, TellsHest, TellsTable, Accepts, RefusesHest, IsNotServed, HasBadTable, HasUnserved, HasBadScript, IsAccepted}
 use Rattle.ghes_replay.proofs.OneReading.{not_both}
-
-read_once : (bytes : List ℕ) (first second : Result (List Source) HestError) → Judges bytes first → Judges bytes second → first ≡ second
-read_once bytes first second j k = ?
 
 -- the words ask for one task
 pub same_task : (words : List (List ℕ)) (task task' : Task) → IsTask words task → IsTask words task' → task ≡ task'
@@ -49,7 +47,7 @@ not_longer seen name limit told t longer =
 judged_alike : (seen : FilesSeen) (name : List ℕ) (limit : ℕ) (bytes told : List ℕ) (first second : Result (List Source) HestError) → IsLoaded seen name limit bytes → IsTold seen name limit told → Judges bytes first → Judges told second → first ≡ second
 judged_alike seen name limit bytes told first second l t j k =
     let P : List ℕ → Type 0 = λ xs. Judges xs first in
-    read_once told first second (subst P (same_bytes seen name limit bytes told l t) j) k
+    one_judgement told first second (subst P (same_bytes seen name limit bytes told l t) j) k
 
 abbrev ok_of : List Source → Result (List Source) HestError
 ok_of found = Ok found

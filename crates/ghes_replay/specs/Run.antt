@@ -1,5 +1,5 @@
 -- What a run of the program promises: its text, and the cause of each refusal.
-use Rattle.std.specs.Prelude.{◌≡◌, ◌⊎◌, ℕ, List, [], ◌∷◌, codes, Bool, ◌||◌, ◌==◌, Option, Some, None, Result, Ok, Err, IfOk, IfErr, OnOk}
+use Rattle.std.specs.Prelude.{◌≡◌, ◌⊎◌, ℕ, List, Bool, ◌||◌, ◌==◌, Option, Some, None, Result, Ok, Err, IfOk, IfErr, OnOk}
 use Rattle.apei_hest.specs.declared.source.Ghes.{Ghes}
 use Rattle.apei_hest.specs.declared.source.Source.{Source}
 use Rattle.ghes_outside.specs.Outside.{Rose, Appends, AppendsFront}
@@ -116,7 +116,7 @@ abbrev pub EndsBy : List (List ℕ) → FilesSeen → FilesSeen → SinkSeen →
 EndsBy words before after sink_before sink_after status ledger =
     ((kept : Option Kept) × (text : List ℕ) × InTask words (λ task. IsDone before task kept text) × WasPut sink_before sink_after text 0 kept status ledger)
     ⊎ ((refusal : Refusal) × Cause words before after refusal
-      × WasPut sink_before sink_after (line_of (refused_word words refusal) refusal) (status_of refusal) None status ledger)
+    × WasPut sink_before sink_after (line_of (refused_word words refusal) refusal) (status_of refusal) None status ledger)
 
 -- the statuses of a run
 abbrev pub is_status : ℕ → Bool

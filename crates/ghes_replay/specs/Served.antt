@@ -1,5 +1,5 @@
 -- Which source of a table a replay serves so far.
-use Rattle.std.specs.Prelude.{ℕ, Bool, ◌&&◌, ◌||◌, ◌==◌, is_none, if◌then◌else◌, List, [], ◌∷◌, Option, Some, None}
+use Rattle.std.specs.Prelude.{Bool, ◌&&◌, ◌||◌, ◌==◌, is_none, if◌then◌else◌, List, [], ◌∷◌, Option, Some, None}
 use Rattle.apei_base.specs.Region.{gas_refusal, access_width}
 use Rattle.apei_hest.specs.Refusal.{enabled}
 use Rattle.apei_hest.specs.declared.source.Ghes.{Ghes}

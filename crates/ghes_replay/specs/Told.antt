@@ -1,5 +1,5 @@
 -- Runs whose files are told, and what they are then bound to answer.
-use Rattle.std.specs.Prelude.{◌≡◌, ◌≤◌, ℕ, List, length, Option, Some, None, Result, Ok, Err}
+use Rattle.std.specs.Prelude.{◌≡◌, ◌≤◌, ℕ, List, length, Some, None, Ok, Err}
 use Rattle.apei_hest.specs.Hest.{Judges}
 use Rattle.apei_hest.specs.declared.error.HestError.{HestError}
 use Rattle.apei_hest.specs.declared.source.Ghes.{Ghes}

@@ -27,7 +27,13 @@ fn ghes_line(alloc: Global, form: &str, ghes: &Ghes) -> Result<String, AllocErro
 }
 
 // The line of a structure whose contents are not read.
-fn skipped_line(alloc: Global, kind: u16, id: u16, at: u32, length: u32) -> Result<String, AllocError>
+fn skipped_line(
+    alloc: Global,
+    kind: u16,
+    id: u16,
+    at: u32,
+    length: u32,
+) -> Result<String, AllocError>
     ensures { IfOk result (λ line. string_bytes line ≡ skipped_line kind id at length) }
 {
     format!(in alloc; "{id} at {at}: type {kind}, length {length}\n")
@@ -38,7 +44,12 @@ fn source_line(alloc: Global, source: &Source) -> Result<String, AllocError>
     ensures { IfOk result (λ line. string_bytes line ≡ source_text source.now) }
 {
     match source {
-        Source::Skipped { kind, id, at, length } => skipped_line(alloc, *kind, *id, *at, *length),
+        Source::Skipped {
+            kind,
+            id,
+            at,
+            length,
+        } => skipped_line(alloc, *kind, *id, *at, *length),
         Source::Ghes(ghes) => ghes_line(alloc, form_word(ghes), ghes),
     }
 }

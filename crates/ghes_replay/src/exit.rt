@@ -125,9 +125,7 @@ impl Refusal {
                 alloc,
                 "ghes: usage: replay HEST EINJ SCRIPT | check HEST EINJ | decode BLOCK | load N\n",
             ),
-            Refusal::Load(file, why) => {
-                load_line(alloc, name, load_word(why))
-            },
+            Refusal::Load(file, why) => { load_line(alloc, name, load_word(why)) },
             Refusal::Hest(error) => hest_line(alloc, error),
             Refusal::NotBuilt => String::from_str(alloc, "ghes: hest: 9 not built\n"),
             Refusal::Script(line) => script_line(alloc, line),

@@ -48,11 +48,7 @@ fn load_refusal(file: InputFile, why: LoadError) -> Refusal
 }
 
 /// Loads a table and reads its sources.
-pub(crate) fn load_hest<F: Files>(
-    alloc: Global,
-    files: &mut F,
-    name: &str,
-) -> Result<Hest, Refusal>
+pub(crate) fn load_hest<F: Files>(alloc: Global, files: &mut F, name: &str) -> Result<Hest, Refusal>
     ensures { LoadsHest
         (files_seen (F.contents files.old) (F.failed files.old) (F.faults files.old))
         (files_seen (F.contents files.new) (F.failed files.new) (F.faults files.new))

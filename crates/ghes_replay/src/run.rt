@@ -137,7 +137,13 @@ fn answer_check<F: Files>(
 }
 
 // Lists a table, and puts the text or the line of the refusal.
-fn list<F: Files, K: Sink>(alloc: Global, hest: &str, einj: &str, files: &mut F, out: &mut K) -> RunEnd
+fn list<F: Files, K: Sink>(
+    alloc: Global,
+    hest: &str,
+    einj: &str,
+    files: &mut F,
+    out: &mut K,
+) -> RunEnd
     ensures ends { EndsBy (codes "check" ∷ hest.now ∷ einj.now ∷ [])
         (files_seen (F.contents files.old) (F.failed files.old) (F.faults files.old))
         (files_seen (F.contents files.new) (F.failed files.new) (F.faults files.new))

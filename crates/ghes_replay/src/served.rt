@@ -27,7 +27,9 @@ pub(crate) fn served(sources: &[Source]) -> Option<Ghes>
 {
     let mut only = None;
     for source in sources {
-        if let Source::Ghes(ghes) = source && ghes.enabled {
+        if let Source::Ghes(ghes) = source
+            && ghes.enabled
+        {
             if only.is_some() {
                 return None;
             }

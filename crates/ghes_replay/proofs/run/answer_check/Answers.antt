@@ -1,5 +1,5 @@
 -- The words ask for a listing.
-use Rattle.std.proofs.Common.{◌≡◌, ◌∷◌, [], codes, sym, ap, rules}
+use Rattle.std.proofs.Common.{◌≡◌, ◌∷◌, [], codes, ap, rules}
 use Rattle.ghes_replay.specs.Views.{done_of}
 use Rattle.ghes_replay.specs.Task.{Check}
 use Rattle.ghes_replay.proofs.AnswerLemmas.{answers_task}
