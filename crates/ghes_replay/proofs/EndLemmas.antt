@@ -7,20 +7,20 @@ use Rattle.apei_hest.specs.declared.source.Source.{Source}
 use Rattle.apei_hest.proofs.LawLemmas.{one_judgement}
 use Rattle.ghes_outside.specs.Outside.{Rose, Agrees, IsLonger}
 use Rattle.ghes_outside.specs.declared.files.LoadError.TheVariants as loads
-use Rattle.ghes_replay.specs.declared.line.Line.{Line}
+use Rattle.ghes_script.specs.declared.line.Line.{Line}
 use Rattle.ghes_replay.specs.declared.exit.InputFile.TheVariants as files
 use Rattle.ghes_replay.specs.declared.exit.Refusal.{Refusal}
 use Rattle.ghes_replay.specs.declared.exit.Refusal.TheVariants as refusals
 use Rattle.ghes_replay.specs.Kept.{Kept}
 use Rattle.ghes_replay.specs.Refusal.{status_of, line_of, refused_word}
-use Rattle.ghes_replay.specs.Script.{IsScript, IsRefusedAt}
+use Rattle.ghes_script.specs.Script.{IsScript, IsRefusedAt}
 use Rattle.ghes_replay.specs.Seen.{FilesSeen, SinkSeen, IsLoaded}
 use Rattle.ghes_replay.specs.Served.{served}
 use Rattle.ghes_replay.specs.Task.{Task, Replay, Check, IsTask, table_of}
 use Rattle.ghes_replay.specs.Loading.{HasHest, HasTable, HestCause}
 use Rattle.ghes_replay.specs.Run.{IsDone, TaskCause, Cause, WasPut, EndsBy, PutsText, IsUnlessFault}
 use Rattle.ghes_replay.specs.Told.{IsTold, TellsHest, TellsTable, Accepts, RefusesHest, IsNotServed, HasBadTable, HasUnserved, HasBadScript, IsAccepted}
-use Rattle.ghes_replay.proofs.OneReading.{not_both}
+use Rattle.ghes_script.proofs.OneReading.{not_both}
 
 -- the words ask for one task
 pub same_task : (words : List (List ℕ)) (task task' : Task) → IsTask words task → IsTask words task' → task ≡ task'

@@ -1,7 +1,7 @@
 -- A replay that has run its lines and the end of its script has a lawful ledger, and its text is the text of that ledger.
 use Rattle.std.proofs.Common.{◌≡◌, ℕ, List, [], ◌++◌, length, refl, sym, ap, subst, ◌∙◌, count_by}
 use Rattle.ghes_replay.specs.declared.execute.Replay.{Replay}
-use Rattle.ghes_replay.specs.declared.line.Line.{Line}
+use Rattle.ghes_script.specs.declared.line.Line.{Line}
 use Rattle.ghes_replay.specs.Execute.{executed, step_of}
 use Rattle.ghes_replay.specs.History.{Step, acts_of, acts_in, script_end}
 use Rattle.ghes_replay.specs.Lawful.{IsLawful}

@@ -1,12 +1,12 @@
 -- A history and its state go on by one act.
 use Rattle.std.proofs.Common.{ℕ, List, ◌∷◌, refl, sym, subst, Option, Some, None}
 use Rattle.ghes_replay.specs.declared.execute.Replay.{Replay}
-use Rattle.ghes_replay.specs.declared.line.What.{What}
-use Rattle.ghes_replay.specs.declared.line.What.TheVariants.{Raise, Nmi, Work}
+use Rattle.ghes_script.specs.declared.line.What.{What}
+use Rattle.ghes_script.specs.declared.line.What.TheVariants.{Raise, Nmi, Work}
 use Rattle.ghes_replay.specs.Call.{block_of, is_full}
 use Rattle.ghes_replay.specs.Execute.{executed, step_of, marked, worked}
 use Rattle.ghes_replay.specs.History.{Step}
-use Rattle.ghes_replay.specs.Script.{IsOfFirst}
+use Rattle.ghes_script.specs.Script.{IsOfFirst}
 use Rattle.ghes_replay.proofs.Follows.{IsKept, Follows}
 use Rattle.ghes_replay.proofs.KeptSteps.{kept_raise, kept_call, kept_work}
 use Rattle.ghes_replay.proofs.ToldSteps.{told_raise, told_call, told_work}

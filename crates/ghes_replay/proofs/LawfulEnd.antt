@@ -4,7 +4,7 @@ use Rattle.std.specs.List.{range_with_len}
 use Rattle.std.proofs.lemmas.Bool.{eqb-true}
 use Rattle.std.proofs.lemmas.List.{length-map}
 use Rattle.ghes_replay.specs.declared.execute.Replay.{Replay}
-use Rattle.ghes_replay.specs.declared.line.Line.{Line}
+use Rattle.ghes_script.specs.declared.line.Line.{Line}
 use Rattle.ghes_replay.specs.declared.pending.Packet.{Packet}
 use Rattle.ghes_replay.specs.History.{Step, acts_of, acts_in}
 use Rattle.ghes_replay.specs.Queue.{queue, numbers_of, acknowledged}

@@ -5,7 +5,7 @@ use Rattle.std.proofs.lemmas.List.{length-append, length-map}
 use Rattle.std.proofs.lemmas.Bool.{leb-true, leb-false}
 use Rattle.std.proofs.lemmas.Option.{slice_get_within}
 use Rattle.ghes_replay.specs.declared.execute.Replay.{Replay}
-use Rattle.ghes_replay.specs.declared.line.What.TheVariants.{Raise, Nmi, Work}
+use Rattle.ghes_script.specs.declared.line.What.TheVariants.{Raise, Nmi, Work}
 use Rattle.ghes_replay.specs.declared.ledger.Outcome.TheVariants.{Nothing, Queued, NoSlot}
 use Rattle.ghes_replay.specs.Call.{block_of, is_full, outcome_of, call_at}
 use Rattle.ghes_replay.specs.Execute.{deliveries, worked, marked}

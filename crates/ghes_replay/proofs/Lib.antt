@@ -8,14 +8,11 @@ pub mod FollowsStep
 pub mod KeptSteps
 pub mod LawfulEnd
 pub mod LawfulSteps
-pub mod LineLemmas
 pub mod LoadLemmas
 pub mod OneHistory
-pub mod OneReading
 pub mod PutLemmas
 pub mod RunLemmas
 pub mod Running
-pub mod Scanning
 pub mod ServedLemmas
 pub mod ToldSteps
 pub mod WordLemmas

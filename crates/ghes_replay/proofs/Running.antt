@@ -3,16 +3,16 @@ use Rattle.std.proofs.Common.{◌≡◌, ℕ, zero, suc, ◌+◌, ◌<◌, ◌�
 use Rattle.std.specs.List.{AllByRecursion}
 use Rattle.std.proofs.lemmas.List.{map-append, length-append, take_more}
 use Rattle.ghes_replay.specs.declared.execute.Replay.{Replay}
-use Rattle.ghes_replay.specs.declared.line.Line.{Line}
-use Rattle.ghes_replay.specs.declared.line.What.{What}
-use Rattle.ghes_replay.specs.declared.line.What.TheVariants.{Raise, Nmi, Work}
+use Rattle.ghes_script.specs.declared.line.Line.{Line}
+use Rattle.ghes_script.specs.declared.line.What.{What}
+use Rattle.ghes_script.specs.declared.line.What.TheVariants.{Raise, Nmi, Work}
 use Rattle.ghes_replay.specs.declared.pending.Packet.{Packet}
 use Rattle.ghes_replay.specs.Blocks.{Raised}
 use Rattle.ghes_replay.specs.Kept.{Kept}
 use Rattle.ghes_replay.specs.Call.{block_of, is_full}
 use Rattle.ghes_replay.specs.Execute.{executed, acted, called_by, step_of, calls_by, taken_by}
 use Rattle.ghes_replay.specs.History.{Step, act_of, script_end, acts_of, acts_in}
-use Rattle.ghes_replay.specs.Script.{IsOfFirst}
+use Rattle.ghes_script.specs.Script.{IsOfFirst}
 use Rattle.ghes_replay.specs.Text.{step_text, history_text}
 use Rattle.ghes_replay.proofs.Facts.{cond_nil}
 use Rattle.ghes_replay.proofs.Follows.{Follows}

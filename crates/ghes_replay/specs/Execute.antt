@@ -1,8 +1,8 @@
 -- What executing a line does to the state of a replay. The laws of `Lawful` are proved of it, and know nothing of it.
 use Rattle.std.specs.Prelude.{ℕ, ◌+◌, List, [], ◌∷◌, ◌++◌, map, length, Bool, Option, Some, None}
 use Rattle.ghes_replay.specs.declared.execute.Replay.{Replay}
-use Rattle.ghes_replay.specs.declared.line.What.{What}
-use Rattle.ghes_replay.specs.declared.line.What.TheVariants.{Raise, Nmi, Work}
+use Rattle.ghes_script.specs.declared.line.What.{What}
+use Rattle.ghes_script.specs.declared.line.What.TheVariants.{Raise, Nmi, Work}
 use Rattle.ghes_replay.specs.declared.ledger.Outcome.{Outcome}
 use Rattle.ghes_replay.specs.declared.ledger.Call.{Call}
 use Rattle.ghes_replay.specs.declared.ledger.Taken.{Taken}

@@ -2,9 +2,9 @@
 -- of nothing that lies between a block and its fate.
 use Rattle.std.specs.Prelude.{◌≡◌, ◌≤◌, ◌<◌, ℕ, ◌+◌, ◌==◌, if◌then◌else◌, List, [], ◌∷◌, map, length, take, Option, Some, None, IsSome, IsNone}
 use Rattle.std.specs.List.{flat_map, range_with_len, AllByRecursion}
-use Rattle.ghes_replay.specs.declared.line.Line.{Line}
-use Rattle.ghes_replay.specs.declared.line.What.{What}
-use Rattle.ghes_replay.specs.declared.line.What.TheVariants.{Raise, Nmi, Work}
+use Rattle.ghes_script.specs.declared.line.Line.{Line}
+use Rattle.ghes_script.specs.declared.line.What.{What}
+use Rattle.ghes_script.specs.declared.line.What.TheVariants.{Raise, Nmi, Work}
 use Rattle.ghes_replay.specs.declared.ledger.Outcome.{Outcome}
 use Rattle.ghes_replay.specs.declared.ledger.Outcome.TheVariants.{Nothing, Queued, NoSlot}
 use Rattle.ghes_replay.specs.declared.ledger.Call.{Call}

@@ -8,13 +8,10 @@ pub mod Kept
 pub mod Lawful
 pub mod Loading
 pub mod Queue
-pub mod Reading
 pub mod Refusal
 pub mod Run
-pub mod Script
 pub mod Seen
 pub mod Served
-pub mod Spelling
 pub mod Task
 pub mod Text
 pub mod Told

@@ -4,16 +4,17 @@ ghost use Rattle.std.specs.List.{AllByRecursion};
 ghost use Rattle.ghes_replay.specs.Seen.{files_seen};
 ghost use Rattle.ghes_replay.specs.Task.{Replay, Check};
 ghost use Rattle.ghes_replay.specs.Run.{RunsLines, LoadsSource, Does};
-ghost use Rattle.ghes_replay.specs.Script.{IsOfFirst};
+ghost use Rattle.ghes_script.specs.Script.{IsOfFirst};
 ghost use Rattle.ghes_replay.specs.Views.{done_of};
 
 use crate::check::check_text;
 use crate::loading::{load_hest, load_script};
 use crate::script_run::{Replayed, run_script};
 use crate::served::served;
-use crate::{Ledger, Line, Refusal};
+use crate::{Ledger, Refusal};
 use apei_hest::Ghes;
 use ghes_outside::Files;
+use ghes_script::Line;
 use std::alloc::Global;
 
 /// What was done: the ledger, where it was a replay, and the whole output.

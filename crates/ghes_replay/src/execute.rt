@@ -3,8 +3,9 @@ ghost use Rattle.std.specs.Prelude.{◌≡◌, ◌<◌, ◌^◌, [], length, OnO
 use crate::blocks::Blocks;
 use crate::call::call;
 use crate::pending::Pending;
-use crate::{AckState, Call, Ledger, Line, Reply, What};
+use crate::{AckState, Call, Ledger, Reply};
 use apei_base::Bytes;
+use ghes_script::{Line, What};
 use std::alloc::{AllocError, Global};
 
 /// The state of a replay between two lines.

@@ -3,10 +3,10 @@ ghost use Rattle.ghes_replay.specs.Seen.{files_seen};
 ghost use Rattle.ghes_replay.specs.Loading.{LoadsHest, LoadsScript, ReadsHest, ReadsLines, load_refusal};
 ghost use Rattle.ghes_replay.specs.Views.{lines_of};
 
-use crate::script::{ScriptError, read_script};
-use crate::{InputFile, Line, Refusal};
+use crate::{InputFile, Refusal};
 use apei_hest::{Ghes, Hest, HestError};
 use ghes_outside::{Files, LoadError};
+use ghes_script::{Line, ScriptError, read_script};
 use std::alloc::Global;
 
 /// How many bytes a table may have.

@@ -3,12 +3,13 @@ ghost use Rattle.std.specs.List.{AllByRecursion};
 ghost use Rattle.ghes_replay.specs.Execute.{executed, step_of};
 ghost use Rattle.ghes_replay.specs.History.{Step, act_of, script_end};
 ghost use Rattle.ghes_replay.specs.Lawful.{IsLawful};
-ghost use Rattle.ghes_replay.specs.Script.{IsOfFirst};
+ghost use Rattle.ghes_script.specs.Script.{IsOfFirst};
 ghost use Rattle.ghes_replay.specs.Text.{step_text, replay_text};
 
 use crate::execute::Replay;
 use crate::text::{step_text, summary_text};
-use crate::{Ledger, Line};
+use crate::Ledger;
+use ghes_script::Line;
 use std::alloc::{AllocError, Global};
 
 /// A script that was replayed to its end.

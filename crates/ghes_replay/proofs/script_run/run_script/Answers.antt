@@ -1,7 +1,7 @@
 -- The history of the lines so far goes on line by line, and its end is lawful.
 use Rattle.std.proofs.Common.{◌≡◌, ◌≤◌, ◌+◌, take, length, ap, subst, arith, List, Some}
 use Rattle.std.proofs.lemmas.List.{take_all}
-use Rattle.ghes_replay.specs.declared.line.Line.{Line}
+use Rattle.ghes_script.specs.declared.line.Line.{Line}
 use Rattle.ghes_replay.specs.Execute.{executed}
 use Rattle.ghes_replay.specs.History.{act_of}
 use Rattle.ghes_replay.proofs.Finishing.{finishes}

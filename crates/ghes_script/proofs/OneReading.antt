@@ -1,14 +1,14 @@
 -- A script is read in one way: its first line is determined, and no script has a line that is refused.
 use Rattle.std.proofs.Common.{◌≡◌, ◌≢◌, ◌<◌, ℕ, ◌+◌, List, [], ◌∷◌, ◌++◌, length, ◌⊎◌, inl, inr, refl, sym, ap, subst, ◌∙◌, arith}
 use Rattle.std.specs.List.{AllByRecursion}
-use Rattle.ghes_replay.specs.declared.line.Line.{Line}
-use Rattle.ghes_replay.specs.declared.line.What.{What}
-use Rattle.ghes_replay.specs.declared.line.What.TheVariants.{Raise, Nmi, Work}
+use Rattle.ghes_script.specs.declared.line.Line.{Line}
+use Rattle.ghes_script.specs.declared.line.What.{What}
+use Rattle.ghes_script.specs.declared.line.What.TheVariants.{Raise, Nmi, Work}
 use Rattle.hex.specs.Hex.{decode_of}
 use Rattle.std.proofs.lemmas.Bool.{eqb-false}
 use Rattle.std.proofs.lemmas.List.{append_cancel_left}
-use Rattle.ghes_replay.specs.Spelling.{raise_front}
-use Rattle.ghes_replay.specs.Script.{IsLineOf, IsFirstLine, SpellsFrom, RefusesFrom}
+use Rattle.ghes_script.specs.Spelling.{raise_front}
+use Rattle.ghes_script.specs.Script.{IsLineOf, IsFirstLine, SpellsFrom, RefusesFrom}
 
 -- no byte is a line feed
 abbrev OneLine : List ℕ → Type 0

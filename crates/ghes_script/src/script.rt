@@ -1,9 +1,9 @@
 ghost use Rattle.std.specs.Prelude.{◌≡◌, ◌<◌, ◌≤◌, ◌^◌, ◌-◌, ℕ, List, length, IfOk, IfErr, MatchOption, Ok, true, vec_len};
-ghost use Rattle.ghes_replay.specs.declared.line.What.{What};
-ghost use Rattle.ghes_replay.specs.declared.script.ScriptError.TheVariants as errors;
-ghost use Rattle.ghes_replay.specs.Spelling.{is_bare};
-ghost use Rattle.ghes_replay.specs.Script.{IsLineOf, IsFirstLine, IsScript, IsRefusedAt};
-ghost use Rattle.ghes_replay.specs.Reading.{ReadsBlock, ReadsRaise, ReadsLine, BlamesLine};
+ghost use Rattle.ghes_script.specs.declared.line.What.{What};
+ghost use Rattle.ghes_script.specs.declared.script.ScriptError.TheVariants as errors;
+ghost use Rattle.ghes_script.specs.Spelling.{is_bare};
+ghost use Rattle.ghes_script.specs.Script.{IsLineOf, IsFirstLine, IsScript, IsRefusedAt};
+ghost use Rattle.ghes_script.specs.Reading.{ReadsBlock, ReadsRaise, ReadsLine, BlamesLine};
 
 use crate::forms::Forms;
 use crate::{Line, What};
@@ -15,7 +15,7 @@ use std::alloc::{AllocError, AllocFailed, Global};
 
 /// Why a script is refused.
 #[derive(Clone, Copy, Debug, PartialEq, Eq)]
-pub(crate) enum ScriptError {
+pub enum ScriptError {
     /// The first line that asks for nothing has this number.
     Line(u32),
     OutOfMemory,
@@ -106,7 +106,7 @@ fn first_line(bytes: &[u8]) -> (&[u8], &[u8])
 /// Reads a script of the one source, which has this id.
 ///
 /// The first line that asks for nothing is refused, by its number from 1 on. Own choice.
-pub(crate) fn read_script(alloc: Global, id: u16, bytes: &[u8]) -> Result<Vec<Line>, ScriptError>
+pub fn read_script(alloc: Global, id: u16, bytes: &[u8]) -> Result<Vec<Line>, ScriptError>
     requires { length bytes.now < 2 ^ 32 - 1 }
     ensures found { IfOk result (λ lines. IsScript id bytes.now lines.items) }
     ensures few { IfOk result (λ lines. vec_len lines ≤ length bytes.now) }

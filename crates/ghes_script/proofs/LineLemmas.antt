@@ -1,12 +1,12 @@
 -- When a text is no line.
 use Rattle.std.proofs.Common.{◌≡◌, ◌≢◌, ℕ, List, ◌++◌, Option, Some, None, sym, ap, ◌∙◌, codes}
 use Rattle.std.proofs.lemmas.List.{append_cancel_left}
-use Rattle.ghes_replay.specs.declared.line.What.{What}
-use Rattle.ghes_replay.specs.declared.line.What.TheVariants.{Raise, Nmi, Work}
+use Rattle.ghes_script.specs.declared.line.What.{What}
+use Rattle.ghes_script.specs.declared.line.What.TheVariants.{Raise, Nmi, Work}
 use Rattle.hex.specs.Hex.{decode_of}
-use Rattle.ghes_replay.specs.Spelling.{nmi_line, raise_front}
-use Rattle.ghes_replay.specs.Script.{IsLineOf}
-use Rattle.ghes_replay.specs.Reading.{ReadsBlock, ReadsRaise}
+use Rattle.ghes_script.specs.Spelling.{nmi_line, raise_front}
+use Rattle.ghes_script.specs.Script.{IsLineOf}
+use Rattle.ghes_script.specs.Reading.{ReadsBlock, ReadsRaise}
 
 -- a text without the front of a line `raise`
 pub no_front : (id : ℕ) (text front : List ℕ) → front ≡ raise_front id → ((rest : List ℕ) → text ≢ front ++ rest) → ReadsRaise id text None

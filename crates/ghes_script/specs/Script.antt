@@ -2,10 +2,10 @@
 use Rattle.std.specs.Prelude.{◌≡◌, ◌≢◌, ◌<◌, ℕ, ◌+◌, List, [], ◌∷◌, ◌++◌, length, codes, ◌⊎◌, Ok, true}
 use Rattle.std.specs.List.{AllByRecursion}
 use Rattle.hex.specs.Hex.{decode_of}
-use Rattle.ghes_replay.specs.Spelling.{is_bare, nmi_line, raise_front}
-use Rattle.ghes_replay.specs.declared.line.Line.{Line}
-use Rattle.ghes_replay.specs.declared.line.What.{What}
-use Rattle.ghes_replay.specs.declared.line.What.TheVariants.{Raise, Nmi, Work}
+use Rattle.ghes_script.specs.Spelling.{is_bare, nmi_line, raise_front}
+use Rattle.ghes_script.specs.declared.line.Line.{Line}
+use Rattle.ghes_script.specs.declared.line.What.{What}
+use Rattle.ghes_script.specs.declared.line.What.TheVariants.{Raise, Nmi, Work}
 
 -- a line `raise` with these digits, which spell the block
 pub record IsRaise (id : ℕ) (block digits text : List ℕ) : Type 0 where

@@ -3,8 +3,8 @@ use Rattle.std.proofs.Common.{◌∙◌}
 use Rattle.std.proofs.lemmas.Bool.Decides.{Decides-eqb}
 use Rattle.std.proofs.lemmas.Slice.Eq.{strip_prefix_is}
 use Rattle.std.proofs.lemmas.Result.{IfOk-weaker}
-use Rattle.ghes_replay.proofs.LineLemmas.{no_front, with_front}
-use Rattle.ghes_replay.proofs.script.read_raise.Goals as goal
+use Rattle.ghes_script.proofs.LineLemmas.{no_front, with_front}
+use Rattle.ghes_script.proofs.script.read_raise.Goals as goal
 
 pub returns-in-Some : goal.returns-in-Some
 returns-in-Some c =

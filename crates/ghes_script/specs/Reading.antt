@@ -1,11 +1,11 @@
 -- What reading a script answers.
 use Rattle.std.specs.Prelude.{◌≡◌, ℕ, true, List, Ok, Option, Some, None}
 use Rattle.hex.specs.Hex.{decode_of}
-use Rattle.ghes_replay.specs.Spelling.{is_bare}
-use Rattle.ghes_replay.specs.declared.line.What.{What}
-use Rattle.ghes_replay.specs.declared.script.ScriptError.{ScriptError}
-use Rattle.ghes_replay.specs.declared.script.ScriptError.TheVariants as errors
-use Rattle.ghes_replay.specs.Script.{IsRaise, IsLineOf, IsRefusedAt}
+use Rattle.ghes_script.specs.Spelling.{is_bare}
+use Rattle.ghes_script.specs.declared.line.What.{What}
+use Rattle.ghes_script.specs.declared.script.ScriptError.{ScriptError}
+use Rattle.ghes_script.specs.declared.script.ScriptError.TheVariants as errors
+use Rattle.ghes_script.specs.Script.{IsRaise, IsLineOf, IsRefusedAt}
 
 -- the block that digits spell, or that they spell none that a script may raise
 abbrev pub ReadsBlock : List ℕ → Option (List ℕ) → Type 0

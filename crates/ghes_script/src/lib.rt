@@ -1,0 +1,12 @@
+//! Reads the script of a replay: which errors firmware raises, and when the receiver is called. A script is read whole or
+//! refused at its first bad line.
+#![tactic(auto)]
+
+mod forms;
+mod laws;
+mod line;
+mod script;
+
+pub use laws::a_script_is_read_in_one_way;
+pub use line::{Line, What};
+pub use script::{ScriptError, read_script};
