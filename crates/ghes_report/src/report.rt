@@ -9,6 +9,9 @@ use crate::bytes::bytes_line;
 use cper_block::Malformed;
 use std::alloc::{AllocError, Global};
 
+// Most texts have fewer bytes, and are made without growing.
+const ROOM: usize = 512;
+
 // The line of a reported block.
 #[tactic(auto, using(crate::proofs::Joining::grouped), unfolding(crate::specs::Report::report_line))]
 fn report_line(alloc: Global, id: u16, seq: u32) -> Result<String, AllocError>
@@ -39,7 +42,9 @@ pub fn report_text(
     ensures ok { OnOk result (into.new.items ≡ into.old.items ++ report_text id seq block.now) }
     ensures err { OnErr result (into.new.items ≡ into.old.items) }
 {
-    let mut text = report_line(alloc, id, seq)?.into_bytes();
+    let mut text = Vec::with_capacity(alloc, ROOM)?;
+    let line = report_line(alloc, id, seq)?;
+    text.extend_from_slice(line.as_bytes())?;
     body_text(alloc, &mut text, block)?;
     into.extend_from_slice(&text)
 }
@@ -72,7 +77,7 @@ pub fn block_text(alloc: Global, into: &mut Vec<u8>, block: &[u8]) -> Result<(),
     ensures ok { OnOk result (into.new.items ≡ into.old.items ++ block_text block.now) }
     ensures err { OnErr result (into.new.items ≡ into.old.items) }
 {
-    let mut text = Vec::new(alloc);
+    let mut text = Vec::with_capacity(alloc, ROOM)?;
     body_text(alloc, &mut text, block)?;
     into.extend_from_slice(&text)
 }
