@@ -1,0 +1,9 @@
+use Rattle.std.proofs.Common.{◌≡◌, ◌<◌, ◌+◌, ◌^◌, ◌++◌, length}
+use Rattle.cper_block.specs.Cut.{entries_of}
+use Rattle.ghes_report.specs.Entry.{entries_text}
+use Rattle.ghes_report.proofs.entry.entries_text.Given as goal
+
+abbrev pub invariant-loop-entry : goal.invariant-loop-entry
+invariant-loop-entry l =
+    (l.number + length (entries_of l.entry-iterator) < 2 ^ 32)
+    × (l.into.items ++ entries_text l.number (entries_of l.entry-iterator) ≡ l.fn.into.items ++ entries_text 0 (entries_of l.fn.entries))

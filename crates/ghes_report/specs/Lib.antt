@@ -1,0 +1,4 @@
+pub mod Body
+pub mod Bytes
+pub mod Entry
+pub mod Report
