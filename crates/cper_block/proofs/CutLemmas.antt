@@ -23,7 +23,7 @@ cuts_more bytes entries rest long header whole c =
     base.cuts_more IsEntry (entry_length rest) bytes entries rest (front_is_entry rest long header whole) c
 
 -- what is left behind a whole entry is shorter
-rest_shorter : (bytes : List ℕ) (m : ℕ) → length bytes ≤ suc m → begins_entry bytes ≡ true → length (drop (entry_length bytes) bytes) ≤ m
+pub rest_shorter : (bytes : List ℕ) (m : ℕ) → length bytes ≤ suc m → begins_entry bytes ≡ true → length (drop (entry_length bytes) bytes) ≤ m
 rest_shorter bytes m few begins =
     let more : 64 ≤ entry_length bytes = entry_at_least bytes in
     omega (arith, length-drop (entry_length bytes) bytes)
@@ -56,9 +56,13 @@ entries_step bytes begins long =
     ∙ ap (λ b. cond b (first ∷ entries_in m (drop n bytes)) []) begins
     ∙ ap (λ rest. first ∷ rest) (enough_alike m (length (drop n bytes)) (drop n bytes) (rest_shorter bytes m (omega arith) begins) (omega arith))
 
-second_true : (a b : Bool) → (a && b) ≡ true → b ≡ true
+pub second_true : (a b : Bool) → (a && b) ≡ true → b ≡ true
 second_true true b both = both
 second_true false b both = absurd (false≢true both)
+
+pub first_true : (a b : Bool) → (a && b) ≡ true → a ≡ true
+first_true true b both = refl
+first_true false b both = absurd (false≢true both)
 
 -- each entry has a header's bytes
 entries_in_fit : (n : ℕ) (bytes : List ℕ) → 64 * length (entries_in n bytes) ≤ length bytes

@@ -3,3 +3,4 @@ pub mod CutLemmas
 pub mod EntryLemmas
 pub mod LawLemmas
 pub mod PartLemmas
+pub mod ReasonLemmas

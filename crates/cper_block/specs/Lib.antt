@@ -2,5 +2,6 @@ pub mod Block
 pub mod Cut
 pub mod Entry
 pub mod Header
+pub mod Reason
 pub mod Severity
 pub mod Text

@@ -1,10 +1,11 @@
 //! Laws over the definitions, each the contract of a function that does nothing.
-ghost use Rattle.std.specs.Prelude.{◌≡◌, ◌≤◌, ℕ, List, [], length, take, map, false, Option, None};
+ghost use Rattle.std.specs.Prelude.{◌≡◌, ◌↔◌, ◌≤◌, ℕ, List, [], length, take, map, false, Option, None};
 ghost use Rattle.cper_block.specs.declared.malformed.Malformed.{Malformed};
 ghost use Rattle.cper_block.specs.Header.{header_of, block_length};
 ghost use Rattle.cper_block.specs.Entry.{fields_of};
 ghost use Rattle.cper_block.specs.Cut.{Cuts, begins_entry, entries_of};
 ghost use Rattle.cper_block.specs.Block.{data_of, Judges, IsJoined};
+ghost use Rattle.cper_block.specs.Reason.{reason_of};
 
 /// A well-formed block is its header, its entries, a gap and its raw data, one behind the other, and these are all
 /// its bytes. It is within the limit and the bytes at hand.
@@ -25,4 +26,9 @@ pub fn the_entries_are_those_of_the_cut()
 pub fn bytes_are_judged_in_one_way()
     ensures { (bytes : List ℕ) (limit : ℕ) (first second : Option Malformed) → Judges bytes limit first
         → Judges bytes limit second → first ≡ second }
+{}
+
+/// The computed reason of a block is its judgement.
+pub fn a_reason_is_the_judgement()
+    ensures { (bytes : List ℕ) (limit : ℕ) (answer : Option Malformed) → Judges bytes limit answer ↔ (answer ≡ reason_of bytes limit) }
 {}
