@@ -1,14 +1,17 @@
 -- The computed reason of a block is its judgement, and does not depend on a limit that it keeps.
-use Rattle.std.proofs.Common.{◌≡◌, ◌≤◌, ℕ, zero, suc, ◌+◌, Bool, true, false, cond, List, [], ◌∷◌, ◌++◌, length, take, drop, refl, sym, ap, ◌∙◌, subst, arith, append_assoc, zero-add, Option, Some, None}
+use Rattle.std.proofs.Common.{◌≡◌, ◌≤◌, ℕ, zero, suc, ◌+◌, min, Bool, true, false, cond, ltb, List, [], ◌∷◌, ◌++◌, length, take, drop, refl, sym, ap, ◌∙◌, subst, arith, append_assoc, zero-add, Option, Some, None}
 use Rattle.std.specs.Option.{option_or}
 use Rattle.std.specs.List.{flat_map, AllByRecursion}
-use Rattle.std.proofs.lemmas.Bool.{leb-true, false≢true}
+use Rattle.std.proofs.lemmas.Bool.{leb-true, ltb-false, le-ltb, false≢true}
 use Rattle.std.proofs.lemmas.List.{length-drop, take-append-drop}
 use Rattle.cper_block.specs.Block.{data_of, front_reason, JudgedBy, Judges}
 use Rattle.cper_block.specs.Cut.{IsEntry, Cuts, begins_entry, rest_reason, Walks}
 use Rattle.cper_block.specs.Entry.{entry_length}
+use Rattle.cper_block.specs.Header.{header_of, block_length, header_reason}
 use Rattle.cper_block.specs.Reason.{reason_in, data_reason, reason_of}
+use Rattle.cper_block.specs.declared.header.Header.{Header}
 use Rattle.cper_block.specs.declared.malformed.Malformed.{Malformed}
+use Rattle.cper_block.specs.declared.malformed.Malformed.TheVariants.{TooShort, TooLong}
 use Rattle.cper_block.proofs.CutLemmas.{front_is_entry, rest_shorter, second_true, first_true}
 use Rattle.cper_block.proofs.EntryLemmas.{entry_at_least}
 use Rattle.cper_block.proofs.LawLemmas.{one_judgement}
@@ -87,3 +90,32 @@ pub reason_is_judgement : (bytes : List ℕ) (limit : ℕ) (answer : Option Malf
 reason_is_judgement bytes limit answer same =
     let P : Option Malformed → Type 0 = λ a. Judges bytes limit a in
     subst P (sym same) (reason_judges bytes limit)
+
+-- a later row of a table of refusals that holds no more
+second_row : (a b b' : Bool) (x y : Malformed) (rest : Option Malformed) → (b ≡ false → b' ≡ false) → cond a (Some x) (cond b (Some y) rest) ≡ None → cond a (Some x) (cond b' (Some y) rest) ≡ None
+second_row true b b' x y rest less none = none
+second_row false true b' x y rest less none = let never : Some y ≡ None = none in cc
+second_row false false b' x y rest less none = ap (λ c. cond c (Some y) rest) (less refl) ∙ none
+
+header_wider : (header : Header) (limit wider : ℕ) → limit ≤ wider → header_reason header limit ≡ None → header_reason header wider ≡ None
+header_wider header limit wider more none =
+    second_row (ltb (block_length header) 20) (ltb limit (block_length header)) (ltb wider (block_length header)) TooShort TooLong _
+    (λ within. le-ltb wider (block_length header) (omega (arith, more, ltb-false limit (block_length header) within))) none
+
+front_wider : (short : Bool) (header : Header) (limit wider : ℕ) → limit ≤ wider → cond short (Some TooShort) (header_reason header limit) ≡ None → cond short (Some TooShort) (header_reason header wider) ≡ None
+front_wider true header limit wider more none = none
+front_wider false header limit wider more none = header_wider header limit wider more none
+
+both_none : (front rest : Option Malformed) → option_or front rest ≡ None → (front ≡ None) × (rest ≡ None)
+both_none (Some x) rest none = let never : Some x ≡ None = none in absurd (cc)
+both_none None rest none = (refl, none)
+
+-- a block that is well formed under a limit is so under a greater one
+pub reason_wider : (bytes : List ℕ) (limit wider : ℕ) → limit ≤ wider → reason_of bytes limit ≡ None → reason_of bytes wider ≡ None
+unfolding reason_of
+reason_wider bytes limit wider more none =
+    let parts = both_none (front_reason bytes limit) (data_reason (data_of bytes)) none in
+    let smaller : min (length bytes) limit ≤ min (length bytes) wider = omega arith in
+    ap (λ front. option_or front (data_reason (data_of bytes)))
+    (front_wider (ltb (length bytes) 20) (header_of bytes) (min (length bytes) limit) (min (length bytes) wider) smaller parts.0)
+    ∙ parts.1
