@@ -1,4 +1,4 @@
-ghost use Rattle.std.specs.Prelude.{◌≡◌, IfOk};
+ghost use Rattle.std.specs.Prelude.{◌≡◌, ◌≤◌, IfOk};
 ghost use Rattle.std.specs.Result.{result_err};
 
 use crate::{Malformed, Severity};
@@ -53,6 +53,8 @@ impl Header {
     pub fn check(&self, limit: u32) -> Result<u32, Malformed>
         ensures err { result_err result ≡ header_reason self.now limit }
         ensures length { IfOk result (λ length. length ≡ block_length self.now) }
+        ensures least { IfOk result (λ length. 20 ≤ length) }
+        ensures within { IfOk result (λ length. length ≤ limit) }
     {
         let length = self.block_length();
         if length < 20 {

@@ -18,7 +18,7 @@ use Rattle.ghes_replay.specs.Seen.{FilesSeen, SinkSeen, IsLoaded}
 use Rattle.ghes_replay.specs.Served.{served}
 use Rattle.ghes_replay.specs.Task.{Task, Replay, Check, IsTask, table_of}
 use Rattle.ghes_replay.specs.Loading.{HasHest, HasTable, HestCause}
-use Rattle.ghes_replay.specs.Run.{IsDone, TaskCause, Cause, WasPut, EndsBy, PutsText, IsUnlessFault}
+use Rattle.ghes_replay.specs.Run.{IsDone, TaskCause, Cause, WasPut, EndsBy, PutsText, IsUnlessFault, done_status}
 use Rattle.ghes_replay.specs.Told.{IsTold, TellsHest, TellsTable, Accepts, RefusesHest, IsNotServed, HasBadTable, HasUnserved, HasBadScript, IsAccepted}
 use Rattle.ghes_script.proofs.OneReading.{not_both}
 
@@ -143,10 +143,10 @@ done_of_task words before task task' kept text asked asked' done =
     let P : Task → Type 0 = λ t. IsDone before t kept text in
     subst P (same_task words task' task asked' asked) done
 
--- an accepted run ends with status 0 or 7
-pub is_complete : (words : List (List ℕ)) (before after : FilesSeen) (sink_before sink_after : SinkSeen) (status : ℕ) (ledger : Option Kept) → EndsBy words before after sink_before sink_after status ledger → IsAccepted words before after sink_before sink_after → (status ≡ 0) ⊎ (status ≡ 7)
+-- an accepted run ends with the status of what was done, or with 7
+pub is_complete : (words : List (List ℕ)) (before after : FilesSeen) (sink_before sink_after : SinkSeen) (status : ℕ) (ledger : Option Kept) → EndsBy words before after sink_before sink_after status ledger → IsAccepted words before after sink_before sink_after → (status ≡ done_status ledger) ⊎ (status ≡ 7)
 is_complete words before after sink_before sink_after status ledger (inl (kept, text, done, (same, put))) a = elim put [
-  | inl whole ↦ inl whole.0
+  | inl whole ↦ inl (whole.0 ∙ ap done_status (sym same))
   | inr cut ↦ absurd (a.no_failed_put cut.1)
 ]
 is_complete words before after sink_before sink_after status ledger (inr (refusal, cause, (same, put))) a = elim put [
@@ -269,30 +269,32 @@ bad_script words before after sink_before sink_after status ledger (inr (refusal
     unless_fault (refused_word words refusal) sink_before sink_after refusal 4 status ledger
     (script_refused words before after refusal b (cause_of_task words before after (Replay b.hest b.script) refusal b.asked cause)) put
 
--- no refusal ends with status 0
-refused_nonzero : (refusal : Refusal) → status_of refusal ≡ 0 → ⊥
-refused_nonzero refusals.Usage is = absurd (omega (arith, is))
-refused_nonzero (refusals.Hest error) is = absurd (omega (arith, is))
-refused_nonzero refusals.NotBuilt is = absurd (omega (arith, is))
-refused_nonzero (refusals.Script line) is = absurd (omega (arith, is))
-refused_nonzero (refusals.Load file why) is = absurd (omega (arith, is))
-refused_nonzero refusals.OutOfMemory is = absurd (omega (arith, is))
+-- no refusal ends with status 0 or 1
+refused_above : (refusal : Refusal) → status_of refusal < 2 → ⊥
+refused_above refusals.Usage less = absurd (omega (arith, less))
+refused_above (refusals.Hest error) less = absurd (omega (arith, less))
+refused_above refusals.NotBuilt less = absurd (omega (arith, less))
+refused_above (refusals.Script line) less = absurd (omega (arith, less))
+refused_above (refusals.Load file why) less = absurd (omega (arith, less))
+refused_above refusals.OutOfMemory less = absurd (omega (arith, less))
 
-zero_not_six : (status : ℕ) → status ≡ 6 → status ≡ 0 → ⊥
-zero_not_six status six zero = absurd (omega (arith, six, zero))
-
--- at status 0 what was asked for is done, and its text was put
-pub is_done : (words : List (List ℕ)) (before after : FilesSeen) (sink_before sink_after : SinkSeen) (status : ℕ) (ledger : Option Kept) → EndsBy words before after sink_before sink_after status ledger → status ≡ 0 → PutsText words before sink_before sink_after ledger
-is_done words before after sink_before sink_after status ledger (inl (kept, text, (task, asked, done), (same, put))) zero = elim put [
+-- at the statuses 0 and 1 what was asked for is done, with that status, and its text was put
+pub is_done : (words : List (List ℕ)) (before after : FilesSeen) (sink_before sink_after : SinkSeen) (status : ℕ) (ledger : Option Kept) → EndsBy words before after sink_before sink_after status ledger → status < 2 → (status ≡ done_status ledger) × PutsText words before sink_before sink_after ledger
+is_done words before after sink_before sink_after status ledger (inl (kept, text, (task, asked, done), (same, put))) less = elim put [
   | inl whole ↦
       let P : Option Kept → Type 0 = λ l. IsDone before task l text in
-      (text, (task, asked, subst P (sym same) done), whole.1)
-  | inr cut ↦ absurd (zero_not_six status cut.0 zero)
+      (whole.0 ∙ ap done_status (sym same), (text, (task, asked, subst P (sym same) done), whole.1))
+  | inr cut ↦ absurd (omega (arith, cut.0, less))
 ]
-is_done words before after sink_before sink_after status ledger (inr (refusal, cause, (same, put))) zero = elim put [
-  | inl whole ↦ absurd (refused_nonzero refusal (sym whole.0 ∙ zero))
-  | inr cut ↦ absurd (zero_not_six status cut.0 zero)
+is_done words before after sink_before sink_after status ledger (inr (refusal, cause, (same, put))) less = elim put [
+  | inl whole ↦ absurd (refused_above refusal (omega (arith, whole.0, less)))
+  | inr cut ↦ absurd (omega (arith, cut.0, less))
 ]
+
+-- at status 0, where there is no ledger
+pub is_listed : (words : List (List ℕ)) (before after : FilesSeen) (sink_before sink_after : SinkSeen) (status : ℕ) → EndsBy words before after sink_before sink_after status None → status ≡ 0 → PutsText words before sink_before sink_after None
+is_listed words before after sink_before sink_after status ends zero =
+    (is_done words before after sink_before sink_after status None ends (omega (arith, zero))).1
 
 -- a listing has no ledger
 list_has_none : (words : List (List ℕ)) (before after : FilesSeen) (sink_before sink_after : SinkSeen) (status : ℕ) (ledger : Option Kept) → ((hest script : List ℕ) → IsTask words (Replay hest script) → ⊥) → EndsBy words before after sink_before sink_after status ledger → ledger ≡ None

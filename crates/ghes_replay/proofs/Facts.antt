@@ -1,10 +1,14 @@
--- Facts on lists, packets and deliveries that know nothing of a replay.
-use Rattle.std.proofs.Common.{◌≡◌, ℕ, suc, zero, ◌+◌, Bool, true, false, cond, List, [], ◌∷◌, ◌++◌, map, length, refl, ap, ◌∙◌, arith, add-zero, zero-add}
-use Rattle.std.specs.List.{range_with_len}
+-- Facts on lists, packets and taken blocks that know nothing of a replay.
+use Rattle.std.proofs.Common.{◌≡◌, ℕ, suc, zero, ◌+◌, Bool, true, false, cond, List, [], ◌∷◌, ◌++◌, map, length, refl, sym, ap, ◌∙◌, arith, add-zero, zero-add, Option, Some, None}
+use Rattle.std.specs.List.{range_with_len, flat_map}
+use Rattle.std.proofs.lemmas.List.{length-append}
+use Rattle.cper_block.specs.declared.malformed.Malformed.{Malformed}
+use Rattle.ghes_replay.specs.declared.ledger.PanicEntry.{PanicEntry}
 use Rattle.ghes_replay.specs.declared.pending.Packet.{Packet}
-use Rattle.ghes_replay.specs.Kept.{report_of_packet}
-use Rattle.ghes_replay.specs.Execute.{deliveries}
-use Rattle.ghes_replay.specs.Lawful.{packet_of, report_of, report_number, packets_from}
+use Rattle.ghes_replay.specs.Call.{packet_for}
+use Rattle.ghes_replay.specs.Kept.{taken_by_reason, reports_by_reason, reports_of_packet, panic_entry}
+use Rattle.ghes_replay.specs.Execute.{takings}
+use Rattle.ghes_replay.specs.Lawful.{packet_of, panic_packet, report_of, report_number, packets_from, name_of, taken_names, panic_names}
 
 -- a choice between a list and nothing goes into `++`
 pub cond-append : {A : Type 0} (b : Bool) (xs ys : List A) → cond b xs [] ++ cond b ys [] ≡ cond b (xs ++ ys) []
@@ -34,31 +38,76 @@ range-push n =
     range-add 1 n 1 ∙ ap (λ k. range_with_len 1 n ++ k ∷ []) last
 
 -- packets of a list joined from two
-pub packets_from-append : (s n : ℕ) (xs ys : List (List ℕ)) → packets_from s n (xs ++ ys) ≡ packets_from s n xs ++ packets_from s (n + length xs) ys
-packets_from-append s n [] ys = rw add-zero refl
-packets_from-append s n (x ∷ xs) ys =
+pub packets_from-append : (limit s n : ℕ) (xs ys : List (List ℕ)) → packets_from limit s n (xs ++ ys) ≡ packets_from limit s n xs ++ packets_from limit s (n + length xs) ys
+packets_from-append limit s n [] ys = rw add-zero refl
+packets_from-append limit s n (x ∷ xs) ys =
     let later : n + suc (length xs) ≡ n + 1 + length xs = omega arith in
-    rw later (ap (λ rest. record { source = s; seq = n; bytes = x } ∷ rest) (packets_from-append s (n + 1) xs ys))
+    rw later (ap (λ rest. packet_for limit s n x ∷ rest) (packets_from-append limit s (n + 1) xs ys))
 
--- deliveries are the packets that they were made of
-pub packets-deliveries : (n : ℕ) (packets : List Packet) → map packet_of (deliveries n packets) ≡ packets
-packets-deliveries n [] = refl
-packets-deliveries n (packet ∷ packets) = ap (λ rest. packet ∷ rest) (packets-deliveries (n + 1) packets)
+abbrev packet_with : Packet → Option Malformed → Packet
+packet_with packet reason = record { source = packet.source; seq = packet.seq; bytes = packet.bytes; reason = reason }
 
--- their reports are those of the packets
-pub reports-deliveries : (n : ℕ) (packets : List Packet) → map report_of (deliveries n packets) ≡ map report_of_packet packets
-reports-deliveries n [] = refl
-reports-deliveries n (packet ∷ packets) = ap (λ rest. report_of_packet packet ∷ rest) (reports-deliveries (n + 1) packets)
+-- a taken packet is the packet
+packet_taken : (reason : Option Malformed) (n : ℕ) (packet : Packet) → packet.reason ≡ reason → packet_of (taken_by_reason reason n packet) ≡ packet
+packet_taken (Some reason) n packet is = ap (packet_with packet) (sym is)
+packet_taken None n packet is = ap (packet_with packet) (sym is)
 
--- their numbers follow one another
-pub numbers-deliveries : (n : ℕ) (packets : List Packet) → map report_number (deliveries n packets) ≡ range_with_len (n + 1) (length packets)
-numbers-deliveries n [] = refl
-numbers-deliveries n (packet ∷ packets) = ap (λ rest. (n + 1) ∷ rest) (numbers-deliveries (n + 1) packets)
+pub packets-takings : (n : ℕ) (packets : List Packet) → map packet_of (takings n packets) ≡ packets
+packets-takings n [] = refl
+packets-takings n (packet ∷ packets) =
+    let later = n + length (reports_of_packet packet) in
+    ap (λ p. p ∷ map packet_of (takings later packets)) (packet_taken packet.reason (n + 1) packet refl)
+    ∙ ap (λ rest. packet ∷ rest) (packets-takings later packets)
 
--- there are as many as packets
-pub length-deliveries : (n : ℕ) (packets : List Packet) → length (deliveries n packets) ≡ length packets
-length-deliveries n [] = refl
-length-deliveries n (packet ∷ packets) = ap suc (length-deliveries (n + 1) packets)
+-- its report is that of the packet
+report_taken : (reason : Option Malformed) (n : ℕ) (packet : Packet) → report_of (taken_by_reason reason n packet) ≡ reports_by_reason reason packet
+report_taken (Some reason) n packet = refl
+report_taken None n packet = refl
+
+pub reports-takings : (n : ℕ) (packets : List Packet) → flat_map report_of (takings n packets) ≡ flat_map reports_of_packet packets
+reports-takings n [] = refl
+reports-takings n (packet ∷ packets) =
+    let later = n + length (reports_of_packet packet) in
+    ap (λ xs. xs ++ flat_map report_of (takings later packets)) (report_taken packet.reason (n + 1) packet)
+    ∙ ap (λ rest. reports_of_packet packet ++ rest) (reports-takings later packets)
+
+-- its number is the next one, where it is reported
+number_taken : (reason : Option Malformed) (n : ℕ) (packet : Packet) → report_number (taken_by_reason reason n packet) ≡ range_with_len n (length (reports_by_reason reason packet))
+number_taken (Some reason) n packet = refl
+number_taken None n packet = refl
+
+pub numbers-takings : (n : ℕ) (packets : List Packet) → flat_map report_number (takings n packets) ≡ range_with_len (n + 1) (length (flat_map reports_of_packet packets))
+numbers-takings n [] = refl
+numbers-takings n (packet ∷ packets) =
+    let first = length (reports_of_packet packet) in
+    let rest = length (flat_map reports_of_packet packets) in
+    let next : n + first + 1 ≡ n + 1 + first = omega arith in
+    let size : length (reports_of_packet packet ++ flat_map reports_of_packet packets) ≡ first + rest = length-append (reports_of_packet packet) (flat_map reports_of_packet packets) in
+    ap (λ xs. xs ++ flat_map report_number (takings (n + first) packets)) (number_taken packet.reason (n + 1) packet)
+    ∙ ap (λ xs. range_with_len (n + 1) first ++ xs) (numbers-takings (n + first) packets)
+    ∙ ap (λ m. range_with_len (n + 1) first ++ range_with_len m rest) next
+    ∙ sym (range-add (n + 1) first rest) ∙ ap (range_with_len (n + 1)) (sym size)
+
+-- its name is that of the packet
+name_taken : (reason : Option Malformed) (n : ℕ) (packet : Packet) → name_of (packet_of (taken_by_reason reason n packet)) ≡ name_of packet
+name_taken (Some reason) n packet = refl
+name_taken None n packet = refl
+
+pub names-takings : (n : ℕ) (packets : List Packet) → taken_names (takings n packets) ≡ map name_of packets
+names-takings n [] = refl
+names-takings n (packet ∷ packets) =
+    let later = n + length (reports_of_packet packet) in
+    ap (λ name. name ∷ taken_names (takings later packets)) (name_taken packet.reason (n + 1) packet)
+    ∙ ap (λ rest. name_of packet ∷ rest) (names-takings later packets)
+
+-- packets in the panic list are the packets
+pub packets-panic : (fatal : Bool) (packets : List Packet) → map panic_packet (map (panic_entry fatal) packets) ≡ packets
+packets-panic fatal [] = refl
+packets-panic fatal (packet ∷ packets) = ap (λ rest. packet ∷ rest) (packets-panic fatal packets)
+
+pub names-panic : (fatal : Bool) (packets : List Packet) → panic_names (map (panic_entry fatal) packets) ≡ map name_of packets
+names-panic fatal [] = refl
+names-panic fatal (packet ∷ packets) = ap (λ rest. name_of packet ∷ rest) (names-panic fatal packets)
 
 -- how many numbers follow one another
 pub length-range : (a n : ℕ) → length (range_with_len a n) ≡ n

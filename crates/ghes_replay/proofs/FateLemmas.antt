@@ -1,18 +1,18 @@
 -- The entries of single blocks in a lawful ledger.
 use Rattle.std.proofs.Common.{◌≡◌, ◌≤◌, ◌<◌, ℕ, zero, suc, ◌+◌, Bool, true, false, cond, eqb, ◌&&◌, List, [], ◌∷◌, ◌++◌, map, length, take, refl, sym, ap, subst, ◌∙◌, arith, Some}
 use Rattle.std.specs.Prelude.{slice_get}
-use Rattle.std.specs.List.{range_with_len, AllByRecursion}
+use Rattle.std.specs.List.{flat_map, range_with_len, AllByRecursion}
 use Rattle.std.proofs.lemmas.Bool.{eqb-true, eq-eqb, ne_eqb}
 use Rattle.std.proofs.lemmas.List.{length-append, length-take}
 use Rattle.std.proofs.lemmas.List.Concat.{flat_map-append}
 use Rattle.ghes_script.specs.declared.line.Line.{Line}
 use Rattle.ghes_replay.specs.declared.ledger.Call.{Call}
-use Rattle.ghes_replay.specs.declared.ledger.Taken.{Taken}
 use Rattle.ghes_replay.specs.declared.pending.Packet.{Packet}
 use Rattle.ghes_replay.specs.Fates.{bytes_if, entries_of}
-use Rattle.ghes_replay.specs.History.{Act, Step, acts_of, acts_in, calls_in, Each}
+use Rattle.ghes_replay.specs.History.{Step, acts_in, calls_in, Each}
 use Rattle.ghes_replay.specs.Kept.{Kept}
-use Rattle.ghes_replay.specs.Lawful.{packet_of, of_source, packets_from, WasMade, IsLawful}
+use Rattle.ghes_replay.specs.Lawful.{packet_of, panic_packet, of_source, packets_from, WasMade, IsLawful}
+use Rattle.ghes_replay.specs.Image.{image_of}
 use Rattle.ghes_replay.specs.Queue.{raised_by, queue, number_of, number_by, numbers_of, acknowledged}
 use Rattle.ghes_replay.proofs.Facts.{range-push}
 use Rattle.ghes_replay.proofs.ToldSteps.{queue-push}
@@ -28,46 +28,47 @@ one_entry true has_number n packet rest e = ap (λ b. cond b (packet.bytes ∷ [
 one_entry false has_number n packet rest e = refl
 
 -- the entries of a block stand among the packets of its source
-entries_in_source : (s n : ℕ) (taken : List Taken) → entries_of s n taken ≡ with_number n (of_source s (map packet_of taken))
+entries_in_source : (s n : ℕ) (packets : List Packet) → flat_map (bytes_if s n) packets ≡ with_number n (of_source s packets)
 unfolding with_number
 entries_in_source s n [] = refl
-entries_in_source s n (entry ∷ taken) =
-    ap (λ xs. bytes_if s n (packet_of entry) ++ xs) (entries_in_source s n taken)
-    ∙ one_entry (eqb (packet_of entry).source s) (eqb (packet_of entry).seq n) n (packet_of entry) (of_source s (map packet_of taken)) refl
+entries_in_source s n (packet ∷ packets) =
+    ap (λ xs. bytes_if s n packet ++ xs) (entries_in_source s n packets)
+    ∙ one_entry (eqb packet.source s) (eqb packet.seq n) n packet (of_source s packets) refl
 
 -- no packet has a number below the first
-below_first : (s n m : ℕ) (blocks : List (List ℕ)) → n < m → with_number n (packets_from s m blocks) ≡ []
+below_first : (limit s n m : ℕ) (blocks : List (List ℕ)) → n < m → with_number n (packets_from limit s m blocks) ≡ []
 unfolding with_number
-below_first s n m [] less = refl
-below_first s n m (block ∷ blocks) less =
+below_first limit s n m [] less = refl
+below_first limit s n m (block ∷ blocks) less =
     let other : eqb m n ≡ false = ne_eqb m n (λ e. omega arith) in
-    ap (λ b. cond b (block ∷ []) [] ++ with_number n (packets_from s (m + 1) blocks)) other ∙ below_first s n (m + 1) blocks (omega arith)
+    ap (λ b. cond b (image_of limit block ∷ []) [] ++ with_number n (packets_from limit s (m + 1) blocks)) other
+    ∙ below_first limit s n (m + 1) blocks (omega arith)
 
--- the packet with a number is the block at its place
-at_place : (s k m : ℕ) (blocks : List (List ℕ)) (block : List ℕ) → slice_get blocks k ≡ Some block → with_number (m + k) (packets_from s m blocks) ≡ block ∷ []
+-- the packet with a number is that of the block at its place
+at_place : (limit s k m : ℕ) (blocks : List (List ℕ)) (block : List ℕ) → slice_get blocks k ≡ Some block → with_number (m + k) (packets_from limit s m blocks) ≡ image_of limit block ∷ []
 unfolding with_number
-at_place s k m [] block e = cc
-at_place s zero m (x ∷ xs) block e =
+at_place limit s k m [] block e = cc
+at_place limit s zero m (x ∷ xs) block e =
     let here : eqb m (m + 0) ≡ true = eq-eqb m (m + 0) (omega arith) in
     let same : x ≡ block = cc in
-    ap (λ b. cond b (x ∷ []) [] ++ with_number (m + 0) (packets_from s (m + 1) xs)) here
-    ∙ ap (λ rest. x ∷ rest) (below_first s (m + 0) (m + 1) xs (omega arith)) ∙ ap (λ y. y ∷ []) same
-at_place s (suc k) m (x ∷ xs) block e =
+    ap (λ b. cond b (image_of limit x ∷ []) [] ++ with_number (m + 0) (packets_from limit s (m + 1) xs)) here
+    ∙ ap (λ rest. image_of limit x ∷ rest) (below_first limit s (m + 0) (m + 1) xs (omega arith)) ∙ ap (λ y. image_of limit y ∷ []) same
+at_place limit s (suc k) m (x ∷ xs) block e =
     let other : eqb m (m + suc k) ≡ false = ne_eqb m (m + suc k) (λ same. omega arith) in
     let later : m + suc k ≡ m + 1 + k = omega arith in
-    ap (λ b. cond b (x ∷ []) [] ++ with_number (m + suc k) (packets_from s (m + 1) xs)) other
-    ∙ ap (λ n. with_number n (packets_from s (m + 1) xs)) later ∙ at_place s k (m + 1) xs block e
+    ap (λ b. cond b (image_of limit x ∷ []) [] ++ with_number (m + suc k) (packets_from limit s (m + 1) xs)) other
+    ∙ ap (λ n. with_number n (packets_from limit s (m + 1) xs)) later ∙ at_place limit s k (m + 1) xs block e
 
 -- no packet has a number behind the last
-behind_last : (s k m : ℕ) (blocks : List (List ℕ)) → length blocks ≤ k → with_number (m + k) (packets_from s m blocks) ≡ []
+behind_last : (limit s k m : ℕ) (blocks : List (List ℕ)) → length blocks ≤ k → with_number (m + k) (packets_from limit s m blocks) ≡ []
 unfolding with_number
-behind_last s k m [] long = refl
-behind_last s zero m (x ∷ xs) long = absurd (omega arith)
-behind_last s (suc k) m (x ∷ xs) long =
+behind_last limit s k m [] long = refl
+behind_last limit s zero m (x ∷ xs) long = absurd (omega arith)
+behind_last limit s (suc k) m (x ∷ xs) long =
     let other : eqb m (m + suc k) ≡ false = ne_eqb m (m + suc k) (λ same. omega arith) in
     let later : m + suc k ≡ m + 1 + k = omega arith in
-    ap (λ b. cond b (x ∷ []) [] ++ with_number (m + suc k) (packets_from s (m + 1) xs)) other
-    ∙ ap (λ n. with_number n (packets_from s (m + 1) xs)) later ∙ behind_last s k (m + 1) xs (omega arith)
+    ap (λ b. cond b (image_of limit x ∷ []) [] ++ with_number (m + suc k) (packets_from limit s (m + 1) xs)) other
+    ∙ ap (λ n. with_number n (packets_from limit s (m + 1) xs)) later ∙ behind_last limit s k (m + 1) xs (omega arith)
 
 -- an element of a list is that of its front, where the front reaches that far
 get_of_front : {A : Type 0} (n k : ℕ) (xs : List A) (x : A) → k < n → slice_get xs k ≡ Some x → slice_get (take n xs) k ≡ Some x
@@ -127,32 +128,36 @@ counted_within (suc n) bound all =
     omega arith
 
 -- no more blocks of a source are acknowledged than were made
-pub acknowledged_made : (lines : List Line) (kept : Kept) (history : List Step) → IsLawful lines kept history → (s : ℕ) → acknowledged s kept.calls ≤ length (queue s (acts_of lines))
-acknowledged_made lines kept history l s =
-    let Q : List Act → Type 0 = λ acts. AllByRecursion (λ number. number ≤ length (queue s acts)) (numbers_of s (calls_in history)) in
-    let P : List ℕ → Type 0 = λ xs. AllByRecursion (λ number. number ≤ length (queue s (acts_of lines))) xs in
-    counted_within (acknowledged s kept.calls) (length (queue s (acts_of lines)))
-    (subst P (ap (numbers_of s) (sym l.beside.calls) ∙ l.numbers s) (subst Q l.beside.acts (numbers_made s history l.made)))
+pub acknowledged_made : (limit : ℕ) (lines : List Line) (kept : Kept) (history : List Step) → IsLawful limit lines kept history → (s : ℕ) → acknowledged s kept.calls ≤ length (queue s (acts_in history))
+acknowledged_made limit lines kept history l s =
+    let P : List ℕ → Type 0 = λ xs. AllByRecursion (λ number. number ≤ length (queue s (acts_in history))) xs in
+    counted_within (acknowledged s kept.calls) (length (queue s (acts_in history)))
+    (subst P (ap (numbers_of s) (sym l.beside.calls) ∙ l.numbers s) (numbers_made s history l.made))
+
+-- the entries of a block
+entries_are : (limit : ℕ) (lines : List Line) (kept : Kept) (history : List Step) → IsLawful limit lines kept history → (s n : ℕ) → entries_of s n kept ≡ with_number n (packets_from limit s 1 (take (acknowledged s kept.calls) (queue s (acts_in history))))
+entries_are limit lines kept history l s n =
+    entries_in_source s n (map packet_of kept.taken ++ map panic_packet kept.panic) ∙ ap (with_number n) (l.one_fate s)
 
 -- an acknowledged block has one entry
-pub one_of_acknowledged : (lines : List Line) (kept : Kept) (history : List Step) → IsLawful lines kept history → (s k : ℕ) (block : List ℕ) → k < acknowledged s kept.calls → slice_get (queue s (acts_of lines)) k ≡ Some block → entries_of s (k + 1) kept.taken ≡ block ∷ []
-one_of_acknowledged lines kept history l s k block less e =
+pub one_of_acknowledged : (limit : ℕ) (lines : List Line) (kept : Kept) (history : List Step) → IsLawful limit lines kept history → (s k : ℕ) (block : List ℕ) → k < acknowledged s kept.calls → slice_get (queue s (acts_in history)) k ≡ Some block → entries_of s (k + 1) kept ≡ image_of limit block ∷ []
+one_of_acknowledged limit lines kept history l s k block less e =
     let place : k + 1 ≡ 1 + k = omega arith in
-    entries_in_source s (k + 1) kept.taken ∙ ap (with_number (k + 1)) (l.one_fate s)
-    ∙ ap (λ n. with_number n (packets_from s 1 (take (acknowledged s kept.calls) (queue s (acts_of lines))))) place
-    ∙ at_place s k 1 _ block (get_of_front _ k _ block less e)
+    entries_are limit lines kept history l s (k + 1)
+    ∙ ap (λ n. with_number n (packets_from limit s 1 (take (acknowledged s kept.calls) (queue s (acts_in history))))) place
+    ∙ at_place limit s k 1 _ block (get_of_front _ k _ block less e)
 
 -- a block that is not acknowledged has none
-pub none_of_others : (lines : List Line) (kept : Kept) (history : List Step) → IsLawful lines kept history → (s k : ℕ) → acknowledged s kept.calls ≤ k → entries_of s (k + 1) kept.taken ≡ []
-none_of_others lines kept history l s k beyond =
+pub none_of_others : (limit : ℕ) (lines : List Line) (kept : Kept) (history : List Step) → IsLawful limit lines kept history → (s k : ℕ) → acknowledged s kept.calls ≤ k → entries_of s (k + 1) kept ≡ []
+none_of_others limit lines kept history l s k beyond =
     let a = acknowledged s kept.calls in
-    let q = queue s (acts_of lines) in
+    let q = queue s (acts_in history) in
     let place : k + 1 ≡ 1 + k = omega arith in
     let few : length (take a q) ≤ k = omega (arith, length-take a q) in
-    entries_in_source s (k + 1) kept.taken ∙ ap (with_number (k + 1)) (l.one_fate s)
-    ∙ ap (λ n. with_number n (packets_from s 1 (take a q))) place ∙ behind_last s k 1 (take a q) few
+    entries_are limit lines kept history l s (k + 1)
+    ∙ ap (λ n. with_number n (packets_from limit s 1 (take a q))) place ∙ behind_last limit s k 1 (take a q) few
 
 -- no block has number 0
-pub none_of_zero : (lines : List Line) (kept : Kept) (history : List Step) → IsLawful lines kept history → (s : ℕ) → entries_of s 0 kept.taken ≡ []
-none_of_zero lines kept history l s =
-    entries_in_source s 0 kept.taken ∙ ap (with_number 0) (l.one_fate s) ∙ below_first s 0 1 _ (omega arith)
+pub none_of_zero : (limit : ℕ) (lines : List Line) (kept : Kept) (history : List Step) → IsLawful limit lines kept history → (s : ℕ) → entries_of s 0 kept ≡ []
+none_of_zero limit lines kept history l s =
+    entries_are limit lines kept history l s 0 ∙ below_first limit s 0 1 _ (omega arith)

@@ -1,10 +1,12 @@
 pub mod AnswerLemmas
+pub mod DrainLemmas
 pub mod EndLemmas
 pub mod Facts
 pub mod FateLemmas
 pub mod Finishing
 pub mod Follows
 pub mod FollowsStep
+pub mod ImageLemmas
 pub mod KeptSteps
 pub mod LawfulEnd
 pub mod LawfulSteps
@@ -14,5 +16,6 @@ pub mod PutLemmas
 pub mod RunLemmas
 pub mod Running
 pub mod ServedLemmas
+pub mod SoundLemmas
 pub mod ToldSteps
 pub mod WordLemmas

@@ -1,11 +1,12 @@
 -- The lines, the lists and the marks of a ledger determine its history.
-use Rattle.std.proofs.Common.{◌≡◌, List, [], ◌∷◌, ◌++◌, length, take, drop, refl, sym, ap, ◌∙◌, arith}
-use Rattle.std.proofs.lemmas.List.{length_push, same_from_push, take_at, drop_at}
+use Rattle.std.proofs.Common.{◌≡◌, List, [], ◌∷◌, ◌++◌, ◌+◌, map, length, take, drop, refl, sym, ap, subst, ◌∙◌, arith, ℕ}
+use Rattle.std.proofs.lemmas.List.{length_push, length-map, same_from_push, take_at, drop_at}
 use Rattle.ghes_script.specs.declared.line.Line.{Line}
 use Rattle.ghes_replay.specs.declared.ledger.Call.{Call}
 use Rattle.ghes_replay.specs.declared.ledger.Taken.{Taken}
-use Rattle.ghes_replay.specs.History.{Act, Step, acts_in, calls_in, taken_in, marks_in, Tells}
+use Rattle.ghes_replay.specs.History.{Act, Step, act_of, script_end, acts_in, calls_in, taken_in, marks_in, Tells}
 use Rattle.ghes_replay.specs.Kept.{Kept}
+use Rattle.ghes_replay.specs.Lawful.{IsLawful}
 
 -- two lists cut at one length
 cut_same : {A : Type 0} (xs ys xs' ys' : List A) → xs ++ ys ≡ xs' ++ ys' → length xs ≡ length xs' → (xs ≡ xs') × (ys ≡ ys')
@@ -46,7 +47,27 @@ same_history (step ∷ before) (other ∷ earlier) acts calls taken marks =
     let then : before ≡ earlier = same_history before earlier old_acts.0 old_calls.0 old_taken.0 old_marks.0 in
     ap (λ xs. step ∷ xs) then ∙ ap (λ s. s ∷ earlier) now
 
--- a ledger tells one history
-pub one_history : (lines : List Line) (kept : Kept) (first second : List Step) → Tells lines kept first → Tells lines kept second → first ≡ second
-one_history lines kept first second t u =
+-- a ledger tells one history of the executed lines
+told_once : (lines : List Line) (kept : Kept) (first second : List Step) → Tells lines kept first → Tells lines kept second → first ≡ second
+told_once lines kept first second t u =
     same_history first second (t.acts ∙ sym u.acts) (sym t.calls ∙ u.calls) (sym t.taken ∙ u.taken) (sym t.marks ∙ u.marks)
+
+-- there are as many marks as acts
+marks_of_acts : (history : List Step) → length (marks_in history) ≡ length (acts_in history)
+marks_of_acts [] = refl
+marks_of_acts (step ∷ before) = length_push (marks_in before) _ ∙ ap (λ n. n + 1) (marks_of_acts before) ∙ sym (length_push (acts_in before) step.act)
+
+-- so the marks tell how many lines were executed
+executed_count : (lines : List Line) (kept : Kept) (history : List Step) → Tells lines kept history → length kept.marks ≡ length lines + 1
+executed_count lines kept history t =
+    ap length t.marks ∙ marks_of_acts history ∙ ap length t.acts ∙ length_push (map act_of lines) script_end ∙ ap (λ n. n + 1) (length-map lines act_of)
+
+-- a lawful ledger has one history
+pub one_history : (limit : ℕ) (lines : List Line) (kept : Kept) (first second : List Step) → IsLawful limit lines kept first → IsLawful limit lines kept second → first ≡ second
+one_history limit lines kept first second l m =
+    let count_first = executed_count l.executed kept first l.beside in
+    let count_second = executed_count m.executed kept second m.beside in
+    let size : length m.executed ≡ length l.executed = omega (arith, count_first, count_second) in
+    let same : m.executed ≡ l.executed = (cut_same m.executed m.lines_executed.rest l.executed l.lines_executed.rest (sym m.lines_executed.cut ∙ l.lines_executed.cut) size).0 in
+    let P : List Line → Type 0 = λ executed. Tells executed kept second in
+    told_once l.executed kept first second l.beside (subst P same m.beside)

@@ -79,7 +79,7 @@ replay_refused before middle after hest script ghes refusal table loaded = recor
 }
 
 -- the lines were replayed, or memory ran out
-pub replay_goes : (before middle after : FilesSeen) (hest script : List ℕ) (ghes : Ghes) (lines : List Line) (result : Result (Option Kept × List ℕ) Refusal) → LoadsSource before middle hest (Ok ghes) → LoadsScript middle after script ghes (Ok lines) → RunsLines ghes.id lines result → Does before after (Replay hest script) result
+pub replay_goes : (before middle after : FilesSeen) (hest script : List ℕ) (ghes : Ghes) (lines : List Line) (result : Result (Option Kept × List ℕ) Refusal) → LoadsSource before middle hest (Ok ghes) → LoadsScript middle after script ghes (Ok lines) → RunsLines ghes lines result → Does before after (Replay hest script) result
 replay_goes before middle after hest script ghes lines (Ok (Some ledger, text)) table loaded runs = record {
   loads = loads_of_both before middle after hest script table.loads loaded.loads;
   found = record {

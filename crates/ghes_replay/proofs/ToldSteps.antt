@@ -7,8 +7,11 @@ use Rattle.ghes_script.specs.declared.line.What.TheVariants.{Raise, Nmi}
 use Rattle.ghes_replay.specs.declared.ledger.Call.{Call}
 use Rattle.ghes_replay.specs.declared.ledger.Taken.{Taken}
 use Rattle.ghes_replay.specs.declared.ledger.Mark.{Mark}
-use Rattle.ghes_replay.specs.Call.{outcome_of, call_at}
-use Rattle.ghes_replay.specs.Execute.{deliveries, raised, called_by, worked, marked}
+use Rattle.ghes_replay.specs.declared.ledger.Outcome.{Outcome}
+use Rattle.ghes_replay.specs.declared.ledger.Outcome.TheVariants.{Nothing, Queued, Malformed, Fatal, NoSlot}
+use Rattle.ghes_replay.specs.Blocks.{Raised}
+use Rattle.ghes_replay.specs.Call.{blocks_after, call_at}
+use Rattle.ghes_replay.specs.Execute.{takings, raised, answered, worked, marked}
 use Rattle.ghes_replay.specs.History.{Act, Step, acts_in, calls_in, taken_in}
 use Rattle.ghes_replay.specs.Queue.{raised_by, queue}
 use Rattle.ghes_replay.proofs.Facts.{cond-append}
@@ -37,26 +40,30 @@ told_raise block number history state t = record {
       ∙ cond-append (eqb 0 s) state.blocks.made (block ∷ []);
 }
 
+-- a call makes no block
+pub made_stays : (outcome : Outcome) (blocks : Raised) → (blocks_after outcome blocks).made ≡ blocks.made
+made_stays Nothing blocks = refl
+made_stays NoSlot blocks = refl
+made_stays (Queued number) blocks = refl
+made_stays (Malformed number reason) blocks = refl
+made_stays (Fatal number) blocks = refl
+
 -- after a call
-pub told_call : (standing : Option (List ℕ)) (full : Bool) (number : ℕ) (history : List Step) (state : Replay) → IsTold history state → IsTold (record { act = record { number = number; what = Some (Nmi 0) }; calls = call_at 0 (outcome_of standing full (state.blocks.acknowledged + 1)) ∷ []; taken = [] } ∷ history) (marked number (called_by standing full 0 state))
-told_call standing full number history state t =
-    let call = call_at 0 (outcome_of standing full (state.blocks.acknowledged + 1)) in
+pub told_call : (outcome : Outcome) (standing : Option (List ℕ)) (number : ℕ) (history : List Step) (state : Replay) → IsTold history state → IsTold (record { act = record { number = number; what = Some (Nmi 0) }; calls = call_at 0 outcome ∷ []; taken = [] } ∷ history) (marked number (answered outcome standing 0 state))
+told_call outcome standing number history state t =
+    let call = call_at 0 outcome in
     let calls : state.ledger.calls ++ call ∷ [] ≡ calls_in history ++ call ∷ [] = ap (λ xs. xs ++ call ∷ []) t.calls in
     record {
       calls = calls;
       taken = t.taken ∙ sym (append-nil _);
       marks = mark_pushed number _ _ (state.ledger.calls ++ call ∷ []) (calls_in history ++ call ∷ []) state.ledger.taken (taken_in history ++ []) t.marks calls (t.taken ∙ sym (append-nil _));
-      queue = λ s. queue_stays s (acts_in history) _ refl ∙ t.queue s ∙ made_stays standing full s;
-    } where
-      made_stays : (standing : Option (List ℕ)) (full : Bool) (s : ℕ) → cond (eqb 0 s) state.blocks.made [] ≡ cond (eqb 0 s) (marked number (called_by standing full 0 state)).blocks.made []
-      made_stays None full s = refl
-      made_stays (Some block) true s = refl
-      made_stays (Some block) false s = refl
+      queue = λ s. queue_stays s (acts_in history) _ refl ∙ t.queue s ∙ ap (λ xs. cond (eqb 0 s) xs []) (sym (made_stays outcome state.blocks));
+    }
 
 -- after an act that drains and makes no block
-pub told_work : (what : Option What) (number : ℕ) (history : List Step) (state : Replay) → ((s : ℕ) → raised_by s what ≡ []) → IsTold history state → IsTold (record { act = record { number = number; what = what }; calls = []; taken = deliveries (length state.ledger.reports) state.pending } ∷ history) (marked number (worked state))
+pub told_work : (what : Option What) (number : ℕ) (history : List Step) (state : Replay) → ((s : ℕ) → raised_by s what ≡ []) → IsTold history state → IsTold (record { act = record { number = number; what = what }; calls = []; taken = takings (length state.ledger.reports) state.pending } ∷ history) (marked number (worked state))
 told_work what number history state none t =
-    let new = deliveries (length state.ledger.reports) state.pending in
+    let new = takings (length state.ledger.reports) state.pending in
     let taken : state.ledger.taken ++ new ≡ taken_in history ++ new = ap (λ xs. xs ++ new) t.taken in
     record {
       calls = t.calls ∙ sym (append-nil _);

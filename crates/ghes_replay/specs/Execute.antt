@@ -1,49 +1,64 @@
 -- What executing a line does to the state of a replay. The laws of `Lawful` are proved of it, and know nothing of it.
-use Rattle.std.specs.Prelude.{ℕ, ◌+◌, List, [], ◌∷◌, ◌++◌, map, length, Bool, Option, Some, None}
+use Rattle.std.specs.Prelude.{ℕ, ◌+◌, List, [], ◌∷◌, ◌++◌, map, length, Bool, true, false, Option, Some, None}
+use Rattle.std.specs.List.{flat_map}
 use Rattle.ghes_replay.specs.declared.execute.Replay.{Replay}
 use Rattle.ghes_script.specs.declared.line.What.{What}
 use Rattle.ghes_script.specs.declared.line.What.TheVariants.{Raise, Nmi, Work}
 use Rattle.ghes_replay.specs.declared.ledger.Outcome.{Outcome}
 use Rattle.ghes_replay.specs.declared.ledger.Call.{Call}
 use Rattle.ghes_replay.specs.declared.ledger.Taken.{Taken}
+use Rattle.ghes_replay.specs.declared.ledger.PanicEntry.{PanicEntry}
 use Rattle.ghes_replay.specs.declared.pending.Packet.{Packet}
-use Rattle.ghes_replay.specs.Call.{block_of, is_full, outcome_of, blocks_after, pending_after, call_at}
-use Rattle.ghes_replay.specs.Kept.{Kept, delivery_of, report_of_packet, mark_of}
+use Rattle.ghes_replay.specs.Call.{block_of, is_full, outcome_of, blocks_after, pending_after, fatal_after, call_at}
+use Rattle.ghes_replay.specs.Kept.{Kept, taken_of, reports_of_packet, panic_entry, mark_of}
 use Rattle.ghes_replay.specs.History.{Act, Step}
 
--- these packets as deliveries, behind so many reports
-abbrev pub deliveries : ℕ → List Packet → List Taken
-deliveries reports [] = []
-deliveries reports (packet ∷ packets) = delivery_of (reports + 1) packet ∷ deliveries (reports + 1) packets
+-- these packets as taken, behind so many reports
+abbrev pub takings : ℕ → List Packet → List Taken
+takings reports [] = []
+takings reports (packet ∷ packets) = taken_of (reports + 1) packet ∷ takings (reports + length (reports_of_packet packet)) packets
 
--- the ledger after these packets were delivered
+-- the ledger after these packets were taken
 abbrev pub drained : List Packet → Kept → Kept
 drained packets kept = record kept {
-  taken = kept.taken ++ deliveries (length kept.reports) packets;
-  reports = kept.reports ++ map report_of_packet packets;
+  taken = kept.taken ++ takings (length kept.reports) packets;
+  reports = kept.reports ++ flat_map reports_of_packet packets;
 }
 
 -- the outcome of a call now
 abbrev pub outcome_now : Replay → Outcome
-outcome_now replay = outcome_of (block_of replay.blocks) (is_full replay.pending) (replay.blocks.acknowledged + 1)
+outcome_now replay = outcome_of replay.limit (block_of replay.blocks) (is_full replay.pending) (replay.blocks.acknowledged + 1)
 
 -- after firmware raised a block
 abbrev pub raised : List ℕ → Replay → Replay
 raised block replay = record replay { blocks = record replay.blocks { made = replay.blocks.made ++ block ∷ [] } }
 
--- after a call on a source, by the block that stood and whether each slot was taken
-abbrev pub called_by : Option (List ℕ) → Bool → ℕ → Replay → Replay
-called_by standing full source replay = record {
-  blocks = blocks_after (outcome_of standing full (replay.blocks.acknowledged + 1)) replay.blocks;
-  pending = pending_after source (outcome_of standing full (replay.blocks.acknowledged + 1)) standing replay.pending;
-  ledger = record replay.ledger { calls = replay.ledger.calls ++ call_at source (outcome_of standing full (replay.blocks.acknowledged + 1)) ∷ [] };
+-- the panic list behind a call: a fatal packet adds all that is pending, and then itself
+abbrev pub panic_after : List PanicEntry → List Packet → Option Packet → List PanicEntry
+panic_after panic pending None = panic
+panic_after panic pending (Some fatal) = (panic ++ map (panic_entry false) pending) ++ panic_entry true fatal ∷ []
+
+-- what is still pending behind a fatal packet: nothing
+abbrev pub left_by : List Packet → Option Packet → List Packet
+left_by pending None = pending
+left_by pending (Some fatal) = []
+
+-- after a call on a source, by its outcome and the block that stood
+abbrev pub answered : Outcome → Option (List ℕ) → ℕ → Replay → Replay
+answered outcome standing source replay = record replay {
+  blocks = blocks_after outcome replay.blocks;
+  pending = left_by (pending_after replay.limit source outcome standing replay.pending) (fatal_after replay.limit source outcome standing);
+  ledger = record replay.ledger {
+    calls = replay.ledger.calls ++ call_at source outcome ∷ [];
+    panic = panic_after replay.ledger.panic replay.pending (fatal_after replay.limit source outcome standing);
+  };
 }
 
 -- after a call on a source
 abbrev pub called : ℕ → Replay → Replay
-called source replay = called_by (block_of replay.blocks) (is_full replay.pending) source replay
+called source replay = answered (outcome_now replay) (block_of replay.blocks) source replay
 
--- after all that was pending was delivered
+-- after all that was pending was taken
 abbrev pub worked : Replay → Replay
 worked replay = record replay { pending = []; ledger = drained replay.pending replay.ledger }
 
@@ -73,8 +88,8 @@ calls_by None replay = []
 abbrev pub taken_by : Option What → Replay → List Taken
 taken_by (Some (Raise source block)) replay = []
 taken_by (Some (Nmi source)) replay = []
-taken_by (Some Work) replay = deliveries (length replay.ledger.reports) replay.pending
-taken_by None replay = deliveries (length replay.ledger.reports) replay.pending
+taken_by (Some Work) replay = takings (length replay.ledger.reports) replay.pending
+taken_by None replay = takings (length replay.ledger.reports) replay.pending
 
 -- the step of an act
 abbrev pub step_of : Act → Replay → Step

@@ -4,6 +4,7 @@ pub mod Check
 pub mod Execute
 pub mod Fates
 pub mod History
+pub mod Image
 pub mod Kept
 pub mod Lawful
 pub mod Loading
@@ -12,6 +13,7 @@ pub mod Refusal
 pub mod Run
 pub mod Seen
 pub mod Served
+pub mod Sound
 pub mod Task
 pub mod Text
 pub mod Told

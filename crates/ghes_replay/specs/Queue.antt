@@ -4,7 +4,7 @@ use Rattle.std.specs.List.{flat_map}
 use Rattle.ghes_script.specs.declared.line.What.{What}
 use Rattle.ghes_script.specs.declared.line.What.TheVariants.{Raise, Nmi, Work}
 use Rattle.ghes_replay.specs.declared.ledger.Outcome.{Outcome}
-use Rattle.ghes_replay.specs.declared.ledger.Outcome.TheVariants.{Nothing, Queued, NoSlot}
+use Rattle.ghes_replay.specs.declared.ledger.Outcome.TheVariants.{Nothing, Queued, Malformed, Fatal, NoSlot}
 use Rattle.ghes_replay.specs.declared.ledger.Call.{Call}
 use Rattle.ghes_replay.specs.History.{Act, Step, acts_in, calls_in}
 
@@ -24,6 +24,24 @@ abbrev pub number_of : Outcome → List ℕ
 number_of Nothing = []
 number_of NoSlot = []
 number_of (Queued number) = number ∷ []
+number_of (Malformed number reason) = number ∷ []
+number_of (Fatal number) = number ∷ []
+
+-- the number of the block that an outcome made pending
+abbrev pub pending_number : Outcome → List ℕ
+pending_number Nothing = []
+pending_number NoSlot = []
+pending_number (Queued number) = number ∷ []
+pending_number (Malformed number reason) = number ∷ []
+pending_number (Fatal number) = []
+
+-- the number of the block that an outcome took as fatal
+abbrev pub fatal_number : Outcome → List ℕ
+fatal_number Nothing = []
+fatal_number NoSlot = []
+fatal_number (Queued number) = []
+fatal_number (Malformed number reason) = []
+fatal_number (Fatal number) = number ∷ []
 
 -- the number of the block of a source that a call acknowledged
 abbrev pub number_by : ℕ → Call → List ℕ

@@ -1,5 +1,6 @@
 -- What a run of the program promises: its text, and the cause of each refusal.
-use Rattle.std.specs.Prelude.{◌≡◌, ◌⊎◌, ℕ, List, Bool, ◌||◌, ◌==◌, Option, Some, None, Result, Ok, Err, IfOk, IfErr, OnOk}
+use Rattle.std.specs.Prelude.{◌≡◌, ◌⊎◌, ℕ, List, Bool, false, ◌||◌, ◌==◌, if◌then◌else◌, Option, Some, None, Result, Ok, Err, IfOk, IfErr, OnOk}
+use Rattle.std.specs.List.{list_any}
 use Rattle.apei_hest.specs.declared.source.Ghes.{Ghes}
 use Rattle.apei_hest.specs.declared.source.Source.{Source}
 use Rattle.ghes_outside.specs.Outside.{Rose, Appends, AppendsFront}
@@ -9,6 +10,7 @@ use Rattle.ghes_replay.specs.declared.exit.Refusal.{Refusal}
 use Rattle.ghes_replay.specs.declared.exit.Refusal.TheVariants as refusals
 use Rattle.ghes_replay.specs.Check.{check_text}
 use Rattle.ghes_replay.specs.History.{Step}
+use Rattle.ghes_replay.specs.Image.{limit_of}
 use Rattle.ghes_replay.specs.Kept.{Kept}
 use Rattle.ghes_replay.specs.Lawful.{IsLawful}
 use Rattle.ghes_replay.specs.Refusal.{status_of, line_of, memory_line, refused_word}
@@ -25,8 +27,8 @@ pub record IsReplayed (seen : FilesSeen) (hest script : List ℕ) (ledger : Kept
   pub lines : List Line
   pub spelled : HasScript seen script ghes lines
   pub history : List Step
-  pub lawful : IsLawful lines ledger history
-  pub told : text ≡ replay_text ghes.id lines ledger history
+  pub lawful : IsLawful (limit_of ghes) lines ledger history
+  pub told : text ≡ replay_text ghes.id ledger history
 
 -- the table was listed: it is accepted, and the text is the listing of its sources
 abbrev pub IsChecked : FilesSeen → List ℕ → List ℕ → Type 0
@@ -63,15 +65,16 @@ TaskCause before after (Replay hest script) refusal = ReplayCause before after h
 TaskCause before after (Check hest) refusal = HestCause before after hest refusal
 
 -- what a replay of lines answers, by its ledger and its text
-abbrev pub RunsLines : ℕ → List Line → Result (Option Kept × List ℕ) Refusal → Type 0
-RunsLines id lines (Ok (Some ledger, text)) = (history : List Step) × IsLawful lines ledger history × (text ≡ replay_text id lines ledger history)
-RunsLines id lines (Ok (None, text)) = ⊥
-RunsLines id lines (Err refusals.OutOfMemory) = Unit {0}
-RunsLines id lines (Err refusals.Usage) = ⊥
-RunsLines id lines (Err (refusals.Load file why)) = ⊥
-RunsLines id lines (Err (refusals.Hest error)) = ⊥
-RunsLines id lines (Err refusals.NotBuilt) = ⊥
-RunsLines id lines (Err (refusals.Script line)) = ⊥
+abbrev pub RunsLines : Ghes → List Line → Result (Option Kept × List ℕ) Refusal → Type 0
+RunsLines ghes lines (Ok (Some ledger, text)) =
+    (history : List Step) × IsLawful (limit_of ghes) lines ledger history × (text ≡ replay_text ghes.id ledger history)
+RunsLines ghes lines (Ok (None, text)) = ⊥
+RunsLines ghes lines (Err refusals.OutOfMemory) = Unit {0}
+RunsLines ghes lines (Err refusals.Usage) = ⊥
+RunsLines ghes lines (Err (refusals.Load file why)) = ⊥
+RunsLines ghes lines (Err (refusals.Hest error)) = ⊥
+RunsLines ghes lines (Err refusals.NotBuilt) = ⊥
+RunsLines ghes lines (Err (refusals.Script line)) = ⊥
 
 -- what a task answers, by its ledger and its text
 pub record Does (before after : FilesSeen) (task : Task) (result : Result (Option Kept × List ℕ) Refusal) : Type 0 where
@@ -110,17 +113,25 @@ abbrev pub RefusedBy : SinkSeen → SinkSeen → List ℕ → Refusal → ℕ �
 RefusedBy before after name refusal status ledger =
     WasPut before after (line_of name refusal) (status_of refusal) None status ledger ⊎ WasPut before after memory_line 7 None status ledger
 
+-- the status of what was done: 1 where the ledger has a fatal block, and else 0
+abbrev pub has_fatal : Option Kept → Bool
+has_fatal None = false
+has_fatal (Some kept) = list_any (λ entry. entry.fatal) kept.panic
+
+abbrev pub done_status : Option Kept → ℕ
+done_status ledger = if has_fatal ledger then 1 else 0
+
 -- How a run ends, by its words, its files and its output: the words ask for a task that is done, and its text was put,
 -- or there is a refusal with its cause, and its line was put.
 abbrev pub EndsBy : List (List ℕ) → FilesSeen → FilesSeen → SinkSeen → SinkSeen → ℕ → Option Kept → Type 0
 EndsBy words before after sink_before sink_after status ledger =
-    ((kept : Option Kept) × (text : List ℕ) × InTask words (λ task. IsDone before task kept text) × WasPut sink_before sink_after text 0 kept status ledger)
+    ((kept : Option Kept) × (text : List ℕ) × InTask words (λ task. IsDone before task kept text) × WasPut sink_before sink_after text (done_status kept) kept status ledger)
     ⊎ ((refusal : Refusal) × Cause words before after refusal
     × WasPut sink_before sink_after (line_of (refused_word words refusal) refusal) (status_of refusal) None status ledger)
 
 -- the statuses of a run
 abbrev pub is_status : ℕ → Bool
-is_status status = (status == 0) || (status == 2) || (status == 3) || (status == 4) || (status == 5) || (status == 6) || (status == 7)
+is_status status = (status == 0) || (status == 1) || (status == 2) || (status == 3) || (status == 4) || (status == 5) || (status == 6) || (status == 7)
 
 -- the statuses of a listing
 abbrev pub is_check_status : ℕ → Bool

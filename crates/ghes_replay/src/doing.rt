@@ -17,6 +17,9 @@ use ghes_outside::Files;
 use ghes_script::Line;
 use std::alloc::Global;
 
+/// How many bytes a block has at most, whatever its source says.
+const BLOCK_LIMIT: u32 = 65536;
+
 /// What was done: the ledger, where it was a replay, and the whole output.
 #[derive(Drop)]
 pub(crate) struct Done {
@@ -24,13 +27,13 @@ pub(crate) struct Done {
     pub text: Vec<u8>,
 }
 
-// Replays the lines of a script on the source with this id.
-fn replay_lines(alloc: Global, id: u16, lines: &[Line]) -> Result<Done, Refusal>
+// Replays the lines of a script on a source.
+fn replay_lines(alloc: Global, ghes: &Ghes, lines: &[Line]) -> Result<Done, Refusal>
     requires few { length lines.now < 2 ^ 32 }
     requires first { AllByRecursion (λ line. IsOfFirst line.what) lines.now }
-    ensures { RunsLines id lines.now (done_of result) }
+    ensures { RunsLines ghes.now lines.now (done_of result) }
 {
-    match run_script(alloc, id, lines) {
+    match run_script(alloc, ghes.id, ghes.block_length.min(BLOCK_LIMIT), lines) {
         Ok(Replayed { ledger, text }) => Ok(Done {
             ledger: Some(ledger),
             text,
@@ -70,7 +73,7 @@ pub(crate) fn replay<F: Files>(
         Err(refusal) => return Err(refusal),
     };
     match load_script(alloc, files, script, &ghes) {
-        Ok(lines) => replay_lines(alloc, ghes.id, &lines),
+        Ok(lines) => replay_lines(alloc, &ghes, &lines),
         Err(refusal) => Err(refusal),
     }
 }

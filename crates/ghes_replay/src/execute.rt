@@ -1,7 +1,7 @@
-ghost use Rattle.std.specs.Prelude.{◌≡◌, ◌<◌, ◌^◌, [], length, OnOk};
+ghost use Rattle.std.specs.Prelude.{◌≡◌, ◌<◌, ◌^◌, ◌==◌, ◌++◌, not, false, [], map, length, OnOk};
 
 use crate::blocks::Blocks;
-use crate::call::call;
+use crate::call::{Answer, call};
 use crate::pending::Pending;
 use crate::{AckState, Call, Ledger, Reply};
 use apei_base::Bytes;
@@ -11,6 +11,8 @@ use std::alloc::{AllocError, Global};
 /// The state of a replay between two lines.
 #[derive(Debug, Drop)]
 pub(crate) struct Replay {
+    /// How many bytes a block of the source has at most.
+    pub limit: u32,
     pub blocks: Blocks,
     pub pending: Pending,
     pub ledger: Ledger,
@@ -18,37 +20,65 @@ pub(crate) struct Replay {
 
 ghost use Rattle.ghes_replay.specs.Execute.{drained, called, worked, marked, executed};
 ghost use Rattle.ghes_replay.specs.History.{act_of, script_end};
+ghost use Rattle.ghes_replay.specs.Kept.{nothing_kept, panic_entry};
 
-// Delivers each packet, the oldest first.
+// Takes each packet, the oldest first: it is delivered, or dropped where it is malformed.
 fn drain(alloc: Global, pending: &mut Pending, ledger: &mut Ledger) -> Result<(), AllocError>
     ensures pending { OnOk result (pending.new ≡ []) }
     ensures ledger { OnOk result (ledger.new ≡ drained pending.old ledger.old) }
 {
     while let Some(packet) = pending.take_first() {
-        ledger.enter_delivery(alloc, packet)?;
+        ledger.enter_taken(alloc, packet)?;
+    }
+    Ok(())
+}
+
+// Enters each packet in the panic list, the oldest first.
+fn panic_rest(pending: &mut Pending, ledger: &mut Ledger) -> Result<(), AllocError>
+    ensures pending { OnOk result (pending.new ≡ []) }
+    ensures ledger { OnOk result (ledger.new
+        ≡ record ledger.old { panic = ledger.old.panic ++ map (panic_entry false) pending.old }) }
+{
+    while let Some(packet) = pending.take_first() {
+        ledger.enter_panic(packet, false)?;
     }
     Ok(())
 }
 
 impl Replay {
-    pub fn new(alloc: Global) -> Replay
+    pub fn new(alloc: Global, limit: u32) -> Replay
+        ensures limit { result.limit ≡ limit }
         ensures blocks { result.blocks ≡ record { made = []; acknowledged = 0 } }
         ensures pending { result.pending ≡ [] }
-        ensures ledger { result.ledger ≡ record { calls = []; taken = []; reports = []; marks = [] } }
+        ensures ledger { result.ledger ≡ nothing_kept }
     {
         Replay {
+            limit,
             blocks: Blocks::new(alloc),
             pending: Pending::new(alloc),
             ledger: Ledger::new(alloc),
         }
     }
 
-    // One call on a source, and its entry in the ledger.
+    /// Whether a fatal block came, behind which no line is executed.
+    pub fn is_stopped(&self) -> bool
+        ensures { result ≡ not (length self.now.ledger.panic == 0) }
+    {
+        !self.ledger.panic_list().is_empty()
+    }
+
+    // One call on a source, and its entry in the ledger; a fatal block makes the panic list.
     fn call(&mut self, alloc: Global, source: u16) -> Result<(), AllocError>
         requires { length self.old.blocks.made < 2 ^ 32 }
         ensures { OnOk result (self.new ≡ called source self.old) }
     {
-        let outcome = call(alloc, source, &mut self.blocks, &mut self.pending)?;
+        let Answer { outcome, fatal } = call(
+            alloc,
+            self.limit,
+            source,
+            &mut self.blocks,
+            &mut self.pending,
+        )?;
         self.ledger.enter_call(Call {
             context: 0,
             source,
@@ -57,10 +87,15 @@ impl Replay {
                 outcome,
                 ack: AckState::NotAsked,
             },
-        })
+        })?;
+        let Some(packet) = fatal else {
+            return Ok(());
+        };
+        panic_rest(&mut self.pending, &mut self.ledger)?;
+        self.ledger.enter_panic(packet, true)
     }
 
-    // Delivers all that is pending.
+    // Takes all that is pending.
     fn work(&mut self, alloc: Global) -> Result<(), AllocError>
         ensures { OnOk result (self.new ≡ worked self.old) }
     {
@@ -83,7 +118,7 @@ impl Replay {
         self.ledger.enter_mark(line.number)
     }
 
-    /// Executes the end of the script: delivers all that is pending, and marks the end.
+    /// Executes the end of the script: takes all that is pending, and marks the end.
     pub fn finish(&mut self, alloc: Global) -> Result<(), AllocError>
         ensures { OnOk result (self.new ≡ executed script_end self.old) }
     {

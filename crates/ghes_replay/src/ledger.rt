@@ -1,7 +1,8 @@
-ghost use Rattle.std.specs.Prelude.{◌≡◌, ◌≤◌, ◌+◌, ◌∷◌, ◌++◌, length, OnOk, OnErr, [], drop};
+ghost use Rattle.std.specs.Prelude.{◌≡◌, ◌≤◌, ◌+◌, ◌∷◌, ◌++◌, length, OnOk, None, [], drop};
 
 use crate::Packet;
 use apei_base::Bytes;
+use cper_block::Malformed;
 use std::alloc::{AllocError, Global};
 use std::marker::Model;
 
@@ -12,6 +13,10 @@ pub enum Outcome {
     Nothing,
     /// The block of this number was acknowledged and is pending.
     Queued(u32),
+    /// The block of this number was acknowledged and is pending, and it is malformed.
+    Malformed(u32, Malformed),
+    /// The block of this number was acknowledged, and it is fatal.
+    Fatal(u32),
     /// A block stood, and no slot was free. Nothing was acknowledged.
     NoSlot,
 }
@@ -58,6 +63,26 @@ pub enum Taken {
         bytes: Bytes,
         reported: Reported,
     },
+    Dropped {
+        source: u16,
+        seq: u32,
+        bytes: Bytes,
+        reason: Malformed,
+    },
+}
+
+/// A block that a fatal one left without a delivery, or the fatal block.
+#[derive(Debug, Drop)]
+pub struct PanicEntry {
+    /// The position of the source, from 0 on.
+    pub source: u16,
+    /// The number of the block in its source, from 1 on.
+    pub seq: u32,
+    pub bytes: Bytes,
+    /// Why the block is malformed, if it is.
+    pub reason: Option<Malformed>,
+    /// Whether it is the fatal block, and not one that was pending.
+    pub fatal: bool,
 }
 
 /// A block that was told as new.
@@ -87,6 +112,8 @@ pub struct Ledger {
     pub calls: Vec<Call>,
     pub taken: Vec<Taken>,
     pub reports: Vec<Report>,
+    /// All that was pending when a fatal block came, in order, and then that block.
+    pub panic: Vec<PanicEntry>,
     pub marks: Vec<Mark>,
 }
 
@@ -95,19 +122,20 @@ impl Model for Ledger {
 
     ghost Value = { Kept };
 
-    ghost view = { λ l. record { calls = l.calls.items; taken = l.taken.items; reports = l.reports.items; marks = l.marks.items } };
+    ghost view = { λ l. record { calls = l.calls.items; taken = l.taken.items; reports = l.reports.items; panic = l.panic.items; marks = l.marks.items } };
 }
 
 impl Ledger {
-    ghost use Rattle.ghes_replay.specs.Kept.{Kept, delivery_of, report_of_packet, mark_of};
+    ghost use Rattle.ghes_replay.specs.Kept.{Kept, nothing_kept, taken_of, reports_of_packet, panic_entry, mark_of};
 
     pub(crate) fn new(alloc: Global) -> Ledger
-        ensures { result ≡ record { calls = []; taken = []; reports = []; marks = [] } }
+        ensures { result ≡ nothing_kept }
     {
         Ledger {
             calls: Vec::new(alloc),
             taken: Vec::new(alloc),
             reports: Vec::new(alloc),
+            panic: Vec::new(alloc),
             marks: Vec::new(alloc),
         }
     }
@@ -120,14 +148,20 @@ impl Ledger {
         Ok(())
     }
 
-    /// Enters a packet as delivered, and its report.
-    pub(crate) fn enter_delivery(&mut self, alloc: Global, packet: Packet) -> Result<(), AllocError>
+    // Enters a packet as delivered, and its report.
+    fn enter_delivery(&mut self, alloc: Global, packet: Packet) -> Result<(), AllocError>
+        requires { packet.reason ≡ None }
         ensures { OnOk result (self.new ≡ record self.old {
-          taken = self.old.taken ++ delivery_of (length self.old.reports + 1) packet ∷ [];
-          reports = self.old.reports ++ report_of_packet packet ∷ [];
+          taken = self.old.taken ++ taken_of (length self.old.reports + 1) packet ∷ [];
+          reports = self.old.reports ++ reports_of_packet packet;
         }) }
     {
-        let Packet { source, seq, bytes } = packet;
+        let Packet {
+            source,
+            seq,
+            bytes,
+            ..
+        } = packet;
         self.reports.push(Report {
             source,
             seq,
@@ -144,6 +178,51 @@ impl Ledger {
         Ok(())
     }
 
+    /// Enters a packet that was taken: as dropped, where it is malformed, and else as delivered, with its report.
+    pub(crate) fn enter_taken(&mut self, alloc: Global, packet: Packet) -> Result<(), AllocError>
+        ensures { OnOk result (self.new ≡ record self.old {
+          taken = self.old.taken ++ taken_of (length self.old.reports + 1) packet ∷ [];
+          reports = self.old.reports ++ reports_of_packet packet;
+        }) }
+    {
+        let Some(reason) = packet.reason else {
+            return self.enter_delivery(alloc, packet);
+        };
+        let Packet {
+            source,
+            seq,
+            bytes,
+            ..
+        } = packet;
+        self.taken.push(Taken::Dropped {
+            source,
+            seq,
+            bytes,
+            reason,
+        })?;
+        Ok(())
+    }
+
+    /// Enters a packet in the panic list.
+    pub(crate) fn enter_panic(&mut self, packet: Packet, fatal: bool) -> Result<(), AllocError>
+        ensures { OnOk result (self.new ≡ record self.old { panic = self.old.panic ++ panic_entry fatal packet ∷ [] }) }
+    {
+        let Packet {
+            source,
+            seq,
+            bytes,
+            reason,
+        } = packet;
+        self.panic.push(PanicEntry {
+            source,
+            seq,
+            bytes,
+            reason,
+            fatal,
+        })?;
+        Ok(())
+    }
+
     /// Enters that a line is done.
     pub(crate) fn enter_mark(&mut self, line: u32) -> Result<(), AllocError>
         ensures { OnOk result (self.new ≡ record self.old { marks = self.old.marks ++ mark_of line self.old ∷ [] }) }
@@ -154,6 +233,27 @@ impl Ledger {
             taken: self.taken.len() as u64,
         })?;
         Ok(())
+    }
+
+    /// How many calls it has.
+    pub(crate) fn call_count(&self) -> usize
+        ensures { result ≡ length self.now.calls }
+    {
+        self.calls.len()
+    }
+
+    /// How many taken blocks it has.
+    pub(crate) fn taken_count(&self) -> usize
+        ensures { result ≡ length self.now.taken }
+    {
+        self.taken.len()
+    }
+
+    /// The panic list.
+    pub(crate) fn panic_list(&self) -> &[PanicEntry]
+        ensures { result.now ≡ self.now.panic }
+    {
+        &self.panic
     }
 
     /// The calls from this one on, counted from 0.

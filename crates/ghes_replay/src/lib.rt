@@ -7,6 +7,7 @@ mod check;
 mod doing;
 mod execute;
 mod exit;
+mod image;
 mod laws;
 mod ledger;
 mod loading;
@@ -22,6 +23,8 @@ mod text;
 
 pub use exit::{InputFile, Refusal};
 pub use laws::{a_ledger_tells_one_history, each_block_has_one_fate};
-pub use ledger::{AckState, Call, Ledger, Mark, Outcome, Reply, Report, Reported, Taken};
+pub use ledger::{
+    AckState, Call, Ledger, Mark, Outcome, PanicEntry, Reply, Report, Reported, Taken,
+};
 pub use pending::Packet;
 pub use run::{RunEnd, check_run, ghes_run};

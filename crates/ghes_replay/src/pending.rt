@@ -1,6 +1,7 @@
 ghost use Rattle.std.specs.Prelude.{◌≡◌, ◌<◌, ◌≤◌, ◌∷◌, ◌++◌, length, OnOk, OnErr, MatchOption, [], IsTrue, nat_le};
 
 use apei_base::Bytes;
+use cper_block::Malformed;
 use std::alloc::{AllocError, Global};
 use std::collections::VecDeque;
 use std::marker::Model;
@@ -13,6 +14,8 @@ pub struct Packet {
     /// The number of the block in its source, from 1 on.
     pub seq: u32,
     pub bytes: Bytes,
+    /// Why the image is malformed, if it is.
+    pub reason: Option<Malformed>,
 }
 
 /// How many packets may be pending at once.

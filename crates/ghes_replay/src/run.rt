@@ -1,17 +1,18 @@
-ghost use Rattle.std.specs.Prelude.{◌≡◌, ◌⊎◌, ◌∷◌, [], IsTrue, codes, map, None};
+ghost use Rattle.std.specs.Prelude.{◌≡◌, ◌<◌, ◌⊎◌, ◌∷◌, [], IsTrue, codes, map, None};
+ghost use Rattle.std.specs.List.{list_any};
 ghost use Rattle.std.specs.String.{string_bytes};
 ghost use Rattle.ghes_replay.specs.Seen.{files_seen, sink_seen, Loads};
 ghost use Rattle.ghes_replay.specs.Task.{Task as Asked, IsTask, IsFileWord};
-ghost use Rattle.ghes_replay.specs.Run.{Answers, RefusedBy, EndsBy, PutsText, is_status, is_check_status, IsUnlessFault};
+ghost use Rattle.ghes_replay.specs.Run.{Answers, RefusedBy, EndsBy, PutsText, is_status, is_check_status, done_status, IsUnlessFault};
 ghost use Rattle.ghes_replay.specs.Told.{IsAccepted, HasBadTable, HasUnserved, HasBadScript};
 ghost use Rattle.ghes_outside.specs.Outside.{Rose};
 ghost use Rattle.ghes_replay.specs.Views.{done_of};
 
-use crate::Ledger;
 use crate::doing::{Done, check, replay};
 use crate::exit::{MEMORY_LINE, Refusal};
 use crate::putting::end_with;
 use crate::task::{Task, task_of};
+use crate::{Ledger, PanicEntry};
 use ghes_outside::{Files, Sink};
 use std::alloc::Global;
 
@@ -49,6 +50,23 @@ fn refuse<K: Sink>(alloc: Global, out: &mut K, name: &str, refusal: Refusal) -> 
     }
 }
 
+// Whether a panic list has a fatal block.
+fn has_fatal(entries: &[PanicEntry]) -> bool
+    ensures { result ≡ list_any (λ entry. entry.fatal) entries.now }
+{
+    entries.iter().any(|entry| entry.fatal)
+}
+
+// The status of what was done: 1 where the ledger has a fatal block.
+fn done_status(ledger: &Option<Ledger>) -> u8
+    ensures { result ≡ done_status ledger.now }
+{
+    match ledger {
+        Some(ledger) if has_fatal(ledger.panic_list()) => 1,
+        _ => 0,
+    }
+}
+
 // Does what the words ask for, and puts its text or the line of its refusal.
 fn run<F: Files, K: Sink>(alloc: Global, words: &[String], files: &mut F, out: &mut K) -> RunEnd
     ensures ends { EndsBy (map string_bytes words.now)
@@ -61,7 +79,7 @@ fn run<F: Files, K: Sink>(alloc: Global, words: &[String], files: &mut F, out: &
         (files_seen (F.contents files.new) (F.failed files.new) (F.faults files.new)) }
 {
     match answer(alloc, words, files) {
-        Ok(Done { ledger, text }) => end_with(out, &text, 0, ledger),
+        Ok(Done { ledger, text }) => end_with(out, &text, done_status(&ledger), ledger),
         Err(refusal) => refuse(alloc, out, refusal.word(words), refusal),
     }
 }
@@ -84,8 +102,9 @@ pub fn ghes_run<F: Files, K: Sink>(
         (files_seen (F.contents files.new) (F.failed files.new) (F.faults files.new))
         (sink_seen (K.written out.old) (K.faults out.old)) (sink_seen (K.written out.new) (K.faults out.new))
         result.status result.ledger }
-    // At status 0 what was asked for is done, and the bytes put are its text; a replay has a ledger, which is lawful.
-    ensures done { result.status ≡ 0 → PutsText (map string_bytes words.now)
+    // At the statuses 0 and 1 what was asked for is done, and the bytes put are its text; a replay has a ledger, which is lawful, and
+    // status 1 comes exactly where that has a fatal block.
+    ensures done { result.status < 2 → (result.status ≡ done_status result.ledger) × PutsText (map string_bytes words.now)
         (files_seen (F.contents files.old) (F.failed files.old) (F.faults files.old))
         (sink_seen (K.written out.old) (K.faults out.old)) (sink_seen (K.written out.new) (K.faults out.new))
         result.ledger }
@@ -112,7 +131,7 @@ pub fn ghes_run<F: Files, K: Sink>(
         (files_seen (F.contents files.old) (F.failed files.old) (F.faults files.old))
         (files_seen (F.contents files.new) (F.failed files.new) (F.faults files.new))
         (sink_seen (K.written out.old) (K.faults out.old)) (sink_seen (K.written out.new) (K.faults out.new))
-        → (result.status ≡ 0) ⊎ (result.status ≡ 7) }
+        → (result.status ≡ done_status result.ledger) ⊎ (result.status ≡ 7) }
 {
     run(alloc, words, files, out)
 }
@@ -154,7 +173,7 @@ fn list<F: Files, K: Sink>(
         (files_seen (F.contents files.new) (F.failed files.new) (F.faults files.new)) }
 {
     match answer_check(alloc, hest, einj, files) {
-        Ok(Done { ledger, text }) => end_with(out, &text, 0, ledger),
+        Ok(Done { ledger, text }) => end_with(out, &text, done_status(&ledger), ledger),
         Err(refusal) => refuse(alloc, out, hest, refusal),
     }
 }

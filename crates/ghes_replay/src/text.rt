@@ -1,10 +1,11 @@
 ghost use Rattle.std.specs.Prelude.{◌≡◌, ◌++◌, OnOk, IfOk, length, count_by};
 ghost use Rattle.std.specs.String.{string_bytes};
-ghost use Rattle.std.specs.List.{flat_map};
-ghost use Rattle.ghes_replay.specs.Text.{outcome_text, call_text, severity_code, severity_word, report_lines, report_text, taken_text, has_no_slot, source_line, totals_line};
+ghost use Rattle.std.specs.List.{flat_map, AllByRecursion};
+ghost use Rattle.ghes_replay.specs.Sound.{IsSoundTaken, IsSoundEntry};
+ghost use Rattle.ghes_replay.specs.Text.{outcome_text, call_text, taken_text, entry_line, entry_word, entry_text, panic_text, has_no_slot, was_delivered, was_dropped, raised_line, fates_line, totals_line, summary_by};
 
-use crate::{Call, Ledger, Outcome, Taken};
-use byteorder::{ByteOrder, LittleEndian};
+use crate::{Call, Ledger, Outcome, PanicEntry, Taken};
+use ghes_report::{block_text, drop_text, malformed_lines, report_text};
 use std::alloc::{AllocError, Global};
 use std::fmt;
 
@@ -17,31 +18,10 @@ impl fmt::Display for Outcome {
         match self {
             Outcome::Nothing => f.write_str("nothing"),
             Outcome::Queued(number) => write!(f, "queued {number}"),
+            Outcome::Malformed(number, reason) => write!(f, "malformed {number}: {reason}"),
+            Outcome::Fatal(number) => write!(f, "fatal {number}"),
             Outcome::NoSlot => f.write_str("no slot"),
         }
-    }
-}
-
-// The severity code of a block.
-fn severity_code(block: &[u8]) -> u32
-    ensures { result ≡ severity_code block.now }
-{
-    if block.len() < 20 {
-        return 1;
-    }
-    let (_front, severity) = block.split_at(16);
-    LittleEndian::read_u32(severity)
-}
-
-// The word for a severity code.
-fn severity_word(code: u32) -> &'static str
-    ensures { result.now ≡ severity_word code }
-{
-    match code {
-        0 => "recoverable",
-        2 => "corrected",
-        3 => "none",
-        _ => "fatal",
     }
 }
 
@@ -54,28 +34,6 @@ fn call_text(alloc: Global, into: &mut Vec<u8>, id: u16, call: &Call) -> Result<
     into.extend_from_slice(line.as_bytes())
 }
 
-// The lines of a delivered block of this severity.
-fn report_lines(alloc: Global, id: u16, seq: u32, severity: &str) -> Result<String, AllocError>
-    ensures { IfOk result (λ lines. string_bytes lines ≡ report_lines id seq severity.now) }
-{
-    format!(in alloc; "report source {id} block {seq}\n  severity {severity}\n")
-}
-
-// Appends the lines of a delivered block.
-fn report_text(
-    alloc: Global,
-    into: &mut Vec<u8>,
-    id: u16,
-    seq: u32,
-    block: &[u8],
-) -> Result<(), AllocError>
-    ensures { OnOk result (into.new.items ≡ into.old.items ++ report_text id seq block.now) }
-{
-    let severity = severity_word(severity_code(block));
-    let lines = report_lines(alloc, id, seq, severity)?;
-    into.extend_from_slice(lines.as_bytes())
-}
-
 // Appends the lines of the calls.
 fn calls_text(alloc: Global, into: &mut Vec<u8>, id: u16, calls: &[Call]) -> Result<(), AllocError>
     ensures { OnOk result (into.new.items ≡ into.old.items ++ flat_map (call_text id) calls.now) }
@@ -86,16 +44,36 @@ fn calls_text(alloc: Global, into: &mut Vec<u8>, id: u16, calls: &[Call]) -> Res
     Ok(())
 }
 
+// Appends the lines of a taken block.
+fn taken_text(alloc: Global, into: &mut Vec<u8>, id: u16, taken: &Taken) -> Result<(), AllocError>
+    requires { IsSoundTaken taken.now }
+    ensures { OnOk result (into.new.items ≡ into.old.items ++ taken_text id taken.now) }
+{
+    match taken {
+        Taken::Delivered { seq, bytes, .. } => {
+            report_text(alloc, into, id, *seq, bytes.as_slice())
+        }
+        Taken::Dropped {
+            seq,
+            bytes,
+            reason,
+            ..
+        } => drop_text(alloc, into, id, *seq, reason, bytes.as_slice()),
+    }
+}
+
 // Appends the lines of the taken blocks.
-fn taken_text(alloc: Global, into: &mut Vec<u8>, id: u16, taken: &[Taken]) -> Result<(), AllocError>
+fn all_taken_text(
+    alloc: Global,
+    into: &mut Vec<u8>,
+    id: u16,
+    taken: &[Taken],
+) -> Result<(), AllocError>
+    requires { AllByRecursion IsSoundTaken taken.now }
     ensures { OnOk result (into.new.items ≡ into.old.items ++ flat_map (taken_text id) taken.now) }
 {
     for entry in taken {
-        match entry {
-            Taken::Delivered { seq, bytes, .. } => {
-                report_text(alloc, into, id, *seq, bytes.as_slice())?;
-            }
-        }
+        taken_text(alloc, into, id, entry)?;
     }
     Ok(())
 }
@@ -108,11 +86,78 @@ pub(crate) fn step_text(
     calls: &[Call],
     taken: &[Taken],
 ) -> Result<(), AllocError>
+    requires { AllByRecursion IsSoundTaken taken.now }
     ensures { OnOk result (into.new.items
         ≡ into.old.items ++ (flat_map (call_text id) calls.now ++ flat_map (taken_text id) taken.now)) }
 {
     calls_text(alloc, into, id, calls)?;
-    taken_text(alloc, into, id, taken)
+    all_taken_text(alloc, into, id, taken)
+}
+
+// What a block of the panic list was.
+fn entry_word(fatal: bool) -> &'static str
+    ensures { result.now ≡ entry_word fatal }
+{
+    if fatal { "fatal" } else { "pending" }
+}
+
+// The first line of a block in the panic report.
+fn entry_line(alloc: Global, word: &str, id: u16, seq: u32) -> Result<String, AllocError>
+    ensures { IfOk result (λ line. string_bytes line ≡ entry_line word.now id seq) }
+{
+    format!(in alloc; "{word} source {id} block {seq}\n")
+}
+
+// Appends the lines of a block in the panic report.
+fn entry_text(
+    alloc: Global,
+    into: &mut Vec<u8>,
+    id: u16,
+    entry: &PanicEntry,
+) -> Result<(), AllocError>
+    requires { IsSoundEntry entry.now }
+    ensures { OnOk result (into.new.items ≡ into.old.items ++ entry_text id entry.now) }
+{
+    let line = entry_line(alloc, entry_word(entry.fatal), id, entry.seq)?;
+    into.extend_from_slice(line.as_bytes())?;
+    match &entry.reason {
+        Some(reason) => malformed_lines(alloc, into, reason, entry.bytes.as_slice()),
+        None => block_text(alloc, into, entry.bytes.as_slice()),
+    }
+}
+
+// Appends the lines of the blocks of a panic list.
+fn entries_text(
+    alloc: Global,
+    into: &mut Vec<u8>,
+    id: u16,
+    entries: &[PanicEntry],
+) -> Result<(), AllocError>
+    requires { AllByRecursion IsSoundEntry entries.now }
+    ensures { OnOk result (into.new.items ≡ into.old.items ++ flat_map (entry_text id) entries.now) }
+{
+    for entry in entries {
+        entry_text(alloc, into, id, entry)?;
+    }
+    Ok(())
+}
+
+/// Appends the panic report: nothing, where the panic list is empty.
+pub(crate) fn panic_text(
+    alloc: Global,
+    into: &mut Vec<u8>,
+    id: u16,
+    entries: &[PanicEntry],
+) -> Result<(), AllocError>
+    requires { AllByRecursion IsSoundEntry entries.now }
+    ensures { OnOk result (into.new.items ≡ into.old.items ++ panic_text id entries.now) }
+{
+    if entries.is_empty() {
+        return Ok(());
+    }
+    into.extend_from_slice(b"panic\n")?;
+    entries_text(alloc, into, id, entries)?;
+    into.extend_from_slice(b"end of panic\n")
 }
 
 // How many of the calls found no slot.
@@ -125,19 +170,48 @@ fn no_slots(calls: &[Call]) -> usize
         .count()
 }
 
-// The summary's line of the source.
-fn source_line(
+// How many of the taken blocks were delivered.
+fn delivered(taken: &[Taken]) -> usize
+    ensures { result ≡ count_by was_delivered taken.now }
+{
+    taken
+        .iter()
+        .filter(|entry| matches!(entry, Taken::Delivered { .. }))
+        .count()
+}
+
+// How many of the taken blocks were dropped.
+fn dropped(taken: &[Taken]) -> usize
+    ensures { result ≡ count_by was_dropped taken.now }
+{
+    taken
+        .iter()
+        .filter(|entry| matches!(entry, Taken::Dropped { .. }))
+        .count()
+}
+
+// The first part of the summary's line of the source: what went in.
+fn raised_line(
     alloc: Global,
     id: u16,
     raised: usize,
     acknowledged: u32,
-    delivered: usize,
 ) -> Result<String, AllocError>
-    ensures { IfOk result (λ line. string_bytes line ≡ source_line id raised acknowledged delivered) }
+    ensures { IfOk result (λ line. string_bytes line ≡ raised_line id raised acknowledged) }
 {
-    format!(in alloc;
-        "summary\nsource {id}: raised {raised}, acknowledged {acknowledged}, delivered {delivered}, duplicate 0, dropped 0, panic 0\n"
-    )
+    format!(in alloc; "summary\nsource {id}: raised {raised}, acknowledged {acknowledged}")
+}
+
+// The second part of the summary's line of the source: what came out.
+fn fates_line(
+    alloc: Global,
+    delivered: usize,
+    dropped: usize,
+    panic: usize,
+) -> Result<String, AllocError>
+    ensures { IfOk result (λ line. string_bytes line ≡ fates_line delivered dropped panic) }
+{
+    format!(in alloc; ", delivered {delivered}, duplicate 0, dropped {dropped}, panic {panic}\n")
 }
 
 // The summary's last line.
@@ -156,12 +230,13 @@ pub(crate) fn summary_text(
     acknowledged: u32,
     ledger: &Ledger,
 ) -> Result<(), AllocError>
-    ensures { OnOk result (into.new.items ≡ into.old.items
-        ++ (source_line id raised acknowledged (length ledger.now.taken)
-        ++ totals_line (length ledger.now.reports) (count_by has_no_slot ledger.now.calls))) }
+    ensures { OnOk result (into.new.items ≡ into.old.items ++ summary_by id raised acknowledged ledger.now) }
 {
-    let source = source_line(alloc, id, raised, acknowledged, ledger.taken.len())?;
+    let source = raised_line(alloc, id, raised, acknowledged)?;
     into.extend_from_slice(source.as_bytes())?;
+    let (delivered, dropped) = (delivered(&ledger.taken), dropped(&ledger.taken));
+    let fates = fates_line(alloc, delivered, dropped, ledger.panic.len())?;
+    into.extend_from_slice(fates.as_bytes())?;
     let totals = totals_line(alloc, ledger.reports.len(), no_slots(&ledger.calls))?;
     into.extend_from_slice(totals.as_bytes())
 }

@@ -22,3 +22,11 @@ drop_line id seq reason =
 -- the text of a dropped block, with its bytes (own choice)
 unfoldable pub drop_text : ℕ → ℕ → Malformed → List ℕ → List ℕ
 drop_text id seq reason bytes = drop_line id seq reason ++ bytes_line (codes "  data ") bytes
+
+-- the line of the reason why a block is malformed (own choice)
+unfoldable pub reason_line : Malformed → List ℕ
+reason_line reason = codes "  malformed " ++ malformed_text reason ++ codes "\n"
+
+-- the lines of a malformed block: why it is, and its bytes (own choice)
+unfoldable pub malformed_lines : Malformed → List ℕ → List ℕ
+malformed_lines reason bytes = reason_line reason ++ bytes_line (codes "  data ") bytes

@@ -8,4 +8,4 @@ mod report;
 #[cfg(test)]
 mod tests;
 
-pub use report::{block_text, drop_text, report_text};
+pub use report::{block_text, drop_text, malformed_lines, report_text};

@@ -2,7 +2,7 @@ ghost use Rattle.std.specs.Prelude.{◌≡◌, ◌++◌, OnOk, OnErr, IfOk, None
 ghost use Rattle.std.specs.String.{string_bytes};
 ghost use Rattle.cper_block.specs.Block.{Judges};
 ghost use Rattle.ghes_report.specs.Body.{block_text};
-ghost use Rattle.ghes_report.specs.Report.{report_line, report_text, drop_line, drop_text};
+ghost use Rattle.ghes_report.specs.Report.{report_line, report_text, drop_line, drop_text, reason_line, malformed_lines};
 
 use crate::body::body_text;
 use crate::bytes::bytes_line;
@@ -80,4 +80,29 @@ pub fn block_text(alloc: Global, into: &mut Vec<u8>, block: &[u8]) -> Result<(),
     let mut text = Vec::with_capacity(alloc, ROOM)?;
     body_text(alloc, &mut text, block)?;
     into.extend_from_slice(&text)
+}
+
+// The line of the reason why a block is malformed.
+fn reason_line(alloc: Global, reason: &Malformed) -> Result<String, AllocError>
+    ensures { IfOk result (λ line. string_bytes line ≡ reason_line reason.now) }
+{
+    format!(in alloc; "  malformed {reason}\n")
+}
+
+/// Appends the lines of a malformed block: why it is, and its bytes.
+///
+/// After an error `into` is as it was.
+#[tactic(auto, using(crate::proofs::Joining::grouped), unfolding(crate::specs::Report::malformed_lines))]
+pub fn malformed_lines(
+    alloc: Global,
+    into: &mut Vec<u8>,
+    reason: &Malformed,
+    bytes: &[u8],
+) -> Result<(), AllocError>
+    ensures ok { OnOk result (into.new.items ≡ into.old.items ++ malformed_lines reason.now bytes.now) }
+    ensures err { OnErr result (into.new.items ≡ into.old.items) }
+{
+    let mut lines = reason_line(alloc, reason)?.into_bytes();
+    bytes_line(alloc, &mut lines, "  data ", bytes)?;
+    into.extend_from_slice(&lines)
 }

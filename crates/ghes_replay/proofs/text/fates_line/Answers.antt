@@ -1,8 +1,8 @@
 -- The pieces of the line, joined from the other side.
 use Rattle.std.proofs.Common.{rules, append_assoc}
-use Rattle.ghes_replay.specs.Text.{source_line}
-use Rattle.ghes_replay.proofs.text.source_line.Goals as goal
+use Rattle.ghes_replay.specs.Text.{fates_line}
+use Rattle.ghes_replay.proofs.text.fates_line.Goals as goal
 
 pub returns : goal.returns
-unfolding source_line
+unfolding fates_line
 returns c = search (rules, append_assoc)
