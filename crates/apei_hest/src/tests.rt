@@ -89,6 +89,11 @@ fn told(alloc: Global, bytes: &[u8]) -> Result<String, Fail> {
     }
 }
 
+// The same of the table that states this count and has these structures.
+fn told_of(alloc: Global, count: u32, structures: &[u8]) -> Result<String, Fail> {
+    told(alloc, &table(alloc, count, structures)?)
+}
+
 // What the structure of the sample says with another id, place, address and acknowledgement.
 fn sample(id: u16, at: u32, address: u64, ack: Option<Ack2>) -> Ghes {
     Ghes {

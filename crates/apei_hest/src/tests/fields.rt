@@ -31,35 +31,36 @@ const FULL: &str = "0a000102030405060708090a0b0c0d0e0f101112\
     9c9d9e9fa0a1a2a3a4a5a6a7a8a9aaabacadaeafb0b1b2b3b4b5b6b7b8b9babb\
     01200003bcbdbebfc0c1c2c3c4c5c6c7c8c9cacbcccdcecfd0d1d2d3";
 
+// The sample table of this count, structures and checksum.
+fn sample_table(alloc: Global, count: u32, structures: &str, checksum: u8) -> Result<Hest, Fail> {
+    let mut bytes = table(alloc, count, &hex::decode(alloc, structures)?)?;
+    put(&mut bytes, 9, &[checksum]);
+    Ok(Hest::read(alloc, &bytes)?)
+}
+
 #[test]
-fn the_samples_give_each_of_their_sources(rt: HostRuntime) -> Result<(), Fail> {
-    let alloc = rt.alloc();
-    let version_1 = hex::decode(alloc, SOURCE)?;
-    let version_2 = hex::decode(alloc, SOURCE_2)?;
-    let mut both = hex::decode(alloc, SOURCE)?;
-    both.extend_from_slice(&version_2)?;
+fn a_sample_of_one_source_gives_it(rt: HostRuntime) -> Result<(), Fail> {
+    let hest = sample_table(rt.alloc(), 1, SOURCE, 0x40)?;
+    let want = Source::Ghes(sample(1, 40, 0x7f00_0000, None));
+    assert_eq!(rt; hest.sources(), [want].as_slice());
 
-    let mut bytes = table(alloc, 1, &version_1)?;
-    put(&mut bytes, 9, &[0x40]);
-    let hest = Hest::read(alloc, &bytes)?;
-    let first = Source::Ghes(sample(1, 40, 0x7f00_0000, None));
-    assert_eq!(rt; hest.sources(), [first].as_slice(), "one source");
+    let hest = sample_table(rt.alloc(), 1, SOURCE_2, 0x6c)?;
+    let want = Source::Ghes(sample(2, 40, 0x7f00_0008, Some(SAMPLE_ACK)));
+    assert_eq!(rt; hest.sources(), [want].as_slice(), "of version 2");
+    Ok(())
+}
 
-    let mut bytes = table(alloc, 1, &version_2)?;
-    put(&mut bytes, 9, &[0x6c]);
-    let hest = Hest::read(alloc, &bytes)?;
-    let second = Source::Ghes(sample(2, 40, 0x7f00_0008, Some(SAMPLE_ACK)));
-    assert_eq!(rt;
-        hest.sources(),
-        [second].as_slice(),
-        "one source of version 2"
-    );
-
-    let mut bytes = table(alloc, 2, &both)?;
-    put(&mut bytes, 9, &[0x2d]);
-    let hest = Hest::read(alloc, &bytes)?;
-    let second = Source::Ghes(sample(2, 104, 0x7f00_0008, Some(SAMPLE_ACK)));
-    assert_eq!(rt; hest.sources(), [first, second].as_slice(), "both");
+#[test]
+fn a_sample_of_two_sources_gives_them_in_order(rt: HostRuntime) -> Result<(), Fail> {
+    let mut structures = String::new(rt.alloc());
+    structures.push_str(SOURCE)?;
+    structures.push_str(SOURCE_2)?;
+    let hest = sample_table(rt.alloc(), 2, structures.as_str(), 0x2d)?;
+    let want = [
+        Source::Ghes(sample(1, 40, 0x7f00_0000, None)),
+        Source::Ghes(sample(2, 104, 0x7f00_0008, Some(SAMPLE_ACK))),
+    ];
+    assert_eq!(rt; hest.sources(), want.as_slice());
     Ok(())
 }
 

@@ -1,5 +1,5 @@
 // How many sources a table may have.
-use super::{ENABLED, ID, SOURCE, STATUS, blank, put, table, told};
+use super::{ENABLED, ID, SOURCE, STATUS, blank, put, table, told_of};
 use crate::Hest;
 use std::alloc::Global;
 use std::test::Fail;
@@ -28,10 +28,7 @@ fn a_65th_enabled_source_is_too_many(rt: HostRuntime) -> Result<(), Fail> {
         (66, 30, "8 too many"),
     ] {
         let structures = sources(rt.alloc(), count, off)?;
-        let text = told(
-            rt.alloc(),
-            &table(rt.alloc(), u32::from(count), &structures)?,
-        )?;
+        let text = told_of(rt.alloc(), u32::from(count), &structures)?;
         assert_eq!(rt; text.as_str(), want, "{count} without {off}");
     }
     Ok(())
@@ -48,7 +45,7 @@ fn a_65th_enabled_source_is_too_many_before_its_register_and_behind_its_id(
     ] {
         let mut structures = sources(rt.alloc(), 65, 255)?;
         put(&mut structures, 64 * 64 + offset, &[byte]);
-        let text = told(rt.alloc(), &table(rt.alloc(), 65, &structures)?)?;
+        let text = told_of(rt.alloc(), 65, &structures)?;
         assert_eq!(rt; text.as_str(), want, "{byte} at {offset}");
     }
     Ok(())

@@ -1,6 +1,7 @@
 // Which table is refused, for which reason first, and in which words.
 use super::{
     ACK, BLOCK_LENGTH, ENABLED, ID, SOURCE, SOURCE_2, STATUS, blank, mend, put, table, told,
+    told_of,
 };
 use crate::HestError;
 use apei_base::{GasError, SdtError};
@@ -106,7 +107,7 @@ fn a_rest_behind_a_structure_is_truncated_where_it_begins(rt: HostRuntime) -> Re
     ] {
         let mut structures = hex::decode(rt.alloc(), SOURCE)?;
         structures.extend_from_slice(&hex::decode(rt.alloc(), rest)?)?;
-        let text = told(rt.alloc(), &table(rt.alloc(), 2, &structures)?)?;
+        let text = told_of(rt.alloc(), 2, &structures)?;
         assert_eq!(rt; text.as_str(), want, "{rest}");
     }
     Ok(())
@@ -170,23 +171,31 @@ fn the_first_reason_of_one_source_is_told(rt: HostRuntime) -> Result<(), Fail> {
         let mut structure = hex::decode(rt.alloc(), SOURCE_2)?;
         put(&mut structure, *first, &[*byte]);
         put(&mut structure, *second, &[*other]);
-        let text = told(rt.alloc(), &table(rt.alloc(), 1, &structure)?)?;
+        let text = told_of(rt.alloc(), 1, &structure)?;
         assert_eq!(rt; text.as_str(), *want, "{name}");
 
         // A wrong count is told only where there is no other reason.
-        let text = told(rt.alloc(), &table(rt.alloc(), 7, &structure)?)?;
+        let text = told_of(rt.alloc(), 7, &structure)?;
         let counted = if *want == "accepted" {
             "4 count says 7, found 1"
         } else {
             *want
         };
         assert_eq!(rt; text.as_str(), counted, "{name}, another count");
+    }
+    Ok(())
+}
 
-        // Of a source that is not enabled, only the type is judged.
+#[test]
+fn of_a_source_that_is_not_enabled_only_the_type_is_judged(rt: HostRuntime) -> Result<(), Fail> {
+    for (name, first, byte, second, other, want) in &ORDER {
+        let mut structure = hex::decode(rt.alloc(), SOURCE_2)?;
+        put(&mut structure, *first, &[*byte]);
+        put(&mut structure, *second, &[*other]);
         put(&mut structure, ENABLED, &[0]);
-        let text = told(rt.alloc(), &table(rt.alloc(), 1, &structure)?)?;
         let disabled = if *byte == 12 { *want } else { "accepted" };
-        assert_eq!(rt; text.as_str(), disabled, "{name}, not enabled");
+        let text = told_of(rt.alloc(), 1, &structure)?;
+        assert_eq!(rt; text.as_str(), disabled, "{name}");
     }
     Ok(())
 }
@@ -219,7 +228,7 @@ fn a_skipped_source_may_have_any_id(rt: HostRuntime) -> Result<(), Fail> {
     let mut structures = blank(rt.alloc(), 2, 1, 20)?;
     structures.extend_from_slice(&hex::decode(rt.alloc(), SOURCE)?)?;
     structures.extend_from_slice(&blank(rt.alloc(), 7, 1, 44)?)?;
-    let text = told(rt.alloc(), &table(rt.alloc(), 3, &structures)?)?;
+    let text = told_of(rt.alloc(), 3, &structures)?;
     assert_eq!(rt; text.as_str(), "accepted");
     Ok(())
 }
