@@ -21,6 +21,16 @@ expect() {
   fi
 }
 expect "the stored example" 0 "nmi 1: queued 1" replay "$data/hest.bin" - "$data/script"
+expect "a listing" 0 "hest: 1 sources" check "$data/hest.bin" -
+expect "a listing of a server" 0 "hest: 7 sources" check "$data/server.bin" -
+own=/sys/firmware/acpi/tables/HEST
+if [ -r "$own" ]; then
+  # The count of its structures stands at offset 36, the lowest byte first.
+  count=$((0x$(od -An -tx1 -j36 -N4 "$own" | awk '{print $4 $3 $2 $1}')))
+  expect "the table of this machine" 0 "hest: $count sources" check "$own" -
+else
+  echo "skipped the table of this machine: there is none that this user may read"
+fi
 expect "a missing file" 5 "ghes: read $folder/none: 1 failed" replay "$folder/none" - "$data/script"
 expect "a folder" 5 "ghes: read $folder: 1 failed" replay "$folder" - "$data/script"
 expect "a file of the kernel, whose size says nothing" 3 "ghes: hest: 1 table: 2 signature" replay /proc/version - "$data/script"

@@ -9,6 +9,8 @@ mod hest;
 mod laws;
 mod source;
 mod structure;
+#[cfg(test)]
+mod tests;
 
 pub use error::HestError;
 pub use hest::Hest;

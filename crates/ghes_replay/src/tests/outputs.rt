@@ -1,5 +1,5 @@
 // An output that takes a part.
-use super::{ONE_SOURCE, USAGE, run, words_of};
+use super::{USAGE, ask, one_source, run, server, words_of};
 use crate::ghes_run;
 use ghes_outside::{MemFiles, MemSink};
 use std::test::Fail;
@@ -7,7 +7,7 @@ use std::test::Fail;
 #[test]
 fn an_output_that_fails_keeps_a_front(rt: HostRuntime) -> Result<(), Fail> {
     let alloc = rt.alloc();
-    let table = hex::decode(alloc, ONE_SOURCE)?;
+    let table = one_source(alloc)?;
     let bare = run(
         alloc,
         &table,
@@ -42,5 +42,16 @@ fn an_output_that_fails_keeps_a_front(rt: HostRuntime) -> Result<(), Fail> {
     let end = ghes_run(alloc, &words, &mut files, &mut out);
     assert_eq!(rt; end.status, 6);
     assert!(rt; out.written().is_empty());
+    Ok(())
+}
+
+#[test]
+fn a_listing_that_fails_keeps_a_front(rt: HostRuntime) -> Result<(), Fail> {
+    let alloc = rt.alloc();
+    let table = server(alloc, 1)?;
+    let ran = ask(alloc, &["check", "hest", "-"], &[("hest", &table)], &[1])?;
+    assert_eq!(rt; ran.end.status, 6);
+    assert!(rt; ran.out.written().is_empty());
+    assert!(rt; ran.end.ledger.is_none());
     Ok(())
 }

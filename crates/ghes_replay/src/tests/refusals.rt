@@ -1,23 +1,15 @@
 // What is refused, with the status and the line.
-use super::{ONE_SOURCE, USAGE, run, run_text, words_of};
+use super::{USAGE, ask, one_source, run, run_text, words_of};
 use crate::ghes_run;
 use ghes_outside::{MemFiles, MemSink};
 use std::test::Fail;
 
-// A HEST of one GHESv2 source with id 2.
-const ONE_SOURCE_V2: &str =
-    "4845535484000000016c4748455352545245504c4159303101000000474845530100000001000000\
-    0a000200ffff0001010000000100000000000000004000040800007f00000000\
-    041c0000000000000000000000000000000000000000000000000000\
-    00100000002000030010007f00000000feffffff000000000100000000000000";
-
 #[test]
 fn a_table_is_refused_with_its_reason(rt: HostRuntime) -> Result<(), Fail> {
     let alloc = rt.alloc();
-    let mut wrong_sum = hex::decode(alloc, ONE_SOURCE)?;
+    let mut wrong_sum = one_source(alloc)?;
     assert_eq!(rt; wrong_sum.len(), 104);
     wrong_sum[9] = 0x41;
-    let version_2 = hex::decode(alloc, ONE_SOURCE_V2)?;
     let long = vec![in alloc; 0u8; 1_048_577]?;
     let cases = [
         (
@@ -25,12 +17,6 @@ fn a_table_is_refused_with_its_reason(rt: HostRuntime) -> Result<(), Fail> {
             wrong_sum.as_slice(),
             3,
             "ghes: hest: 1 table: 4 checksum\n",
-        ),
-        (
-            "version 2",
-            version_2.as_slice(),
-            3,
-            "ghes: hest: 9 not built\n",
         ),
         (
             "no bytes",
@@ -126,22 +112,29 @@ fn digits_stand_in_either_case(rt: HostRuntime) -> Result<(), Fail> {
 }
 
 #[test]
-fn words_that_are_no_replay_give_the_usage(rt: HostRuntime) -> Result<(), Fail> {
+fn words_that_are_no_form_give_the_usage(rt: HostRuntime) -> Result<(), Fail> {
     let alloc = rt.alloc();
-    let cases: [&[&str]; 5] = [
+    let table = one_source(alloc)?;
+    let cases: [&[&str]; 14] = [
         &[],
+        &["--help"],
         &["replay", "hest"],
+        &["replay", "hest", "-"],
         &["replay", "hest", "einj", "script"],
         &["replay", "hest", "-", "script", "more"],
-        &["check", "hest", "-"],
+        &["check"],
+        &["check", "hest"],
+        &["check", "hest", "einj"],
+        &["check", "hest", "--"],
+        &["check", "hest", "-", "more"],
+        &["Check", "hest", "-"],
+        &["decode", "hest"],
+        &["load", "8"],
     ];
     for case in &cases {
-        let words = words_of(alloc, case)?;
-        let mut files = MemFiles::new(alloc, &[])?;
-        let mut out = MemSink::new(alloc, 1000, &[])?;
-        let end = ghes_run(alloc, &words, &mut files, &mut out);
-        assert_eq!(rt; end.status, 2, "at {case:?}");
-        assert!(rt; out.written() == USAGE.as_bytes(), "at {case:?}");
+        let ran = ask(alloc, case, &[("hest", &table), ("script", b"")], &[])?;
+        assert_eq!(rt; ran.end.status, 2, "at {case:?}");
+        assert!(rt; ran.out.written() == USAGE.as_bytes(), "at {case:?}");
     }
     Ok(())
 }
@@ -149,7 +142,7 @@ fn words_that_are_no_replay_give_the_usage(rt: HostRuntime) -> Result<(), Fail> 
 #[test]
 fn a_file_that_fails_is_named(rt: HostRuntime) -> Result<(), Fail> {
     let alloc = rt.alloc();
-    let table = hex::decode(alloc, ONE_SOURCE)?;
+    let table = one_source(alloc)?;
     let long = vec![in alloc; b'#'; 16_777_217]?;
     let cases: [(&str, bool, &[u64], &str); 4] = [
         ("no table", false, &[], "ghes: read h: 1 failed\n"),

@@ -1,0 +1,234 @@
+// What the fields of an accepted table say.
+use super::{
+    ADDRESS, ENABLED, ID, KIND, SOURCE, SOURCE_2, blank, put, sample, sample_notify, table,
+};
+use crate::{Ack2, Ghes, Hest, Notify, Source};
+use apei_base::Gas;
+use std::alloc::Global;
+use std::test::Fail;
+
+// The acknowledgement of the sample of version 2.
+const SAMPLE_ACK: Ack2 = Ack2 {
+    register: Gas {
+        space: 0,
+        bit_width: 32,
+        bit_offset: 0,
+        access: 3,
+        address: 0x7f00_1000,
+    },
+    preserve: 0xffff_fffe,
+    write: 1,
+};
+
+// Two sources of version 2 whose fields all have different values: a line for the front, the status address, the
+// notification with the block length, and the acknowledgement.
+const FULL: &str = "0a000102030405060708090a0b0c0d0e0f101112\
+    011000021415161718191a1b\
+    1c1d1e1f202122232425262728292a2b2c2d2e2f303132333435363738393a3b\
+    001808033c3d3e3f404142434445464748494a4b4c4d4e4f50515253\
+    0a008182838485868788898a8b8c8d8e8f909192\
+    000503019495969798999a9b\
+    9c9d9e9fa0a1a2a3a4a5a6a7a8a9aaabacadaeafb0b1b2b3b4b5b6b7b8b9babb\
+    01200003bcbdbebfc0c1c2c3c4c5c6c7c8c9cacbcccdcecfd0d1d2d3";
+
+// The sample table of this count, structures and checksum.
+fn sample_table(alloc: Global, count: u32, structures: &str, checksum: u8) -> Result<Hest, Fail> {
+    let mut bytes = table(alloc, count, &hex::decode(alloc, structures)?)?;
+    put(&mut bytes, 9, &[checksum]);
+    Ok(Hest::read(alloc, &bytes)?)
+}
+
+#[test]
+fn a_sample_of_one_source_gives_it(rt: HostRuntime) -> Result<(), Fail> {
+    let hest = sample_table(rt.alloc(), 1, SOURCE, 0x40)?;
+    let want = Source::Ghes(sample(1, 40, 0x7f00_0000, None));
+    assert_eq!(rt; hest.sources(), [want].as_slice());
+
+    let hest = sample_table(rt.alloc(), 1, SOURCE_2, 0x6c)?;
+    let want = Source::Ghes(sample(2, 40, 0x7f00_0008, Some(SAMPLE_ACK)));
+    assert_eq!(rt; hest.sources(), [want].as_slice(), "of version 2");
+    Ok(())
+}
+
+#[test]
+fn a_sample_of_two_sources_gives_them_in_order(rt: HostRuntime) -> Result<(), Fail> {
+    let mut structures = String::new(rt.alloc());
+    structures.push_str(SOURCE)?;
+    structures.push_str(SOURCE_2)?;
+    let hest = sample_table(rt.alloc(), 2, structures.as_str(), 0x2d)?;
+    let want = [
+        Source::Ghes(sample(1, 40, 0x7f00_0000, None)),
+        Source::Ghes(sample(2, 104, 0x7f00_0008, Some(SAMPLE_ACK))),
+    ];
+    assert_eq!(rt; hest.sources(), want.as_slice());
+    Ok(())
+}
+
+#[test]
+fn each_field_is_read_at_its_own_offset(rt: HostRuntime) -> Result<(), Fail> {
+    let alloc = rt.alloc();
+    let bytes = table(alloc, 2, &hex::decode(alloc, FULL)?)?;
+    let hest = Hest::read(alloc, &bytes)?;
+    let want = [Source::Ghes(full_first()), Source::Ghes(full_second())];
+    assert_eq!(rt; hest.sources(), want.as_slice());
+    Ok(())
+}
+
+fn full_first() -> Ghes {
+    Ghes {
+        id: 0x0201,
+        at: 40,
+        related: 0x0403,
+        flags: 0x05,
+        enabled: true,
+        records: 0x0a09_0807,
+        sections: 0x0e0d_0c0b,
+        raw: 0x1211_100f,
+        status: Gas {
+            space: 1,
+            bit_width: 16,
+            bit_offset: 0,
+            access: 2,
+            address: 0x1b1a_1918_1716_1514,
+        },
+        notify: Notify {
+            kind: 0x1c,
+            length: 0x1d,
+            write_enable: 0x1f1e,
+            poll: 0x2322_2120,
+            vector: 0x2726_2524,
+            poll_threshold: 0x2b2a_2928,
+            poll_window: 0x2f2e_2d2c,
+            error_threshold: 0x3332_3130,
+            error_window: 0x3736_3534,
+        },
+        block_length: 0x3b3a_3938,
+        ack: Some(Ack2 {
+            register: Gas {
+                space: 0,
+                bit_width: 24,
+                bit_offset: 8,
+                access: 3,
+                address: 0x4342_4140_3f3e_3d3c,
+            },
+            preserve: 0x4b4a_4948_4746_4544,
+            write: 0x5352_5150_4f4e_4d4c,
+        }),
+    }
+}
+
+fn full_second() -> Ghes {
+    Ghes {
+        id: 0x8281,
+        at: 132,
+        related: 0x8483,
+        flags: 0x85,
+        enabled: true,
+        records: 0x8a89_8887,
+        sections: 0x8e8d_8c8b,
+        raw: 0x9291_908f,
+        status: Gas {
+            space: 0,
+            bit_width: 5,
+            bit_offset: 3,
+            access: 1,
+            address: 0x9b9a_9998_9796_9594,
+        },
+        notify: Notify {
+            kind: 0x9c,
+            length: 0x9d,
+            write_enable: 0x9f9e,
+            poll: 0xa3a2_a1a0,
+            vector: 0xa7a6_a5a4,
+            poll_threshold: 0xabaa_a9a8,
+            poll_window: 0xafae_adac,
+            error_threshold: 0xb3b2_b1b0,
+            error_window: 0xb7b6_b5b4,
+        },
+        block_length: 0xbbba_b9b8,
+        ack: Some(Ack2 {
+            register: Gas {
+                space: 1,
+                bit_width: 32,
+                bit_offset: 0,
+                access: 3,
+                address: 0xc3c2_c1c0_bfbe_bdbc,
+            },
+            preserve: 0xcbca_c9c8_c7c6_c5c4,
+            write: 0xd3d2_d1d0_cfce_cdcc,
+        }),
+    }
+}
+
+// A server's table: three machine checks and bridges, and two generic sources behind them.
+fn server(alloc: Global) -> Result<Vec<u8>, Fail> {
+    let mut structures = Vec::new(alloc);
+    for (kind, banks, length) in [
+        (0u8, 32usize, 152usize),
+        (1, 44, 160),
+        (6, 4, 48),
+        (7, 4, 44),
+        (8, 4, 56),
+    ] {
+        let id = if kind < 2 { kind } else { kind - 4 };
+        let mut structure = blank(alloc, kind, id, length)?;
+        if kind < 2 {
+            put(&mut structure, banks, &[4]);
+        }
+        structures.extend_from_slice(&structure)?;
+    }
+    for (id, address, kind) in [(8u8, 0u8, 4u8), (9, 8, 3)] {
+        let mut structure = hex::decode(alloc, SOURCE)?;
+        put(&mut structure, ID, &[id]);
+        put(&mut structure, ADDRESS, &[address]);
+        put(&mut structure, KIND, &[kind]);
+        structures.extend_from_slice(&structure)?;
+    }
+    table(alloc, 7, &structures)
+}
+
+fn skipped(kind: u16, id: u16, at: u32, length: u32) -> Source {
+    Source::Skipped {
+        kind,
+        id,
+        at,
+        length,
+    }
+}
+
+#[test]
+fn a_servers_table_gives_seven_sources(rt: HostRuntime) -> Result<(), Fail> {
+    let bytes = server(rt.alloc())?;
+    assert_eq!(rt; bytes.len(), 628usize);
+    let hest = Hest::read(rt.alloc(), &bytes)?;
+    let mut last = sample(9, 564, 0x7f00_0008, None);
+    last.notify = sample_notify(3);
+    let want = [
+        skipped(0, 0, 40, 152),
+        skipped(1, 1, 192, 160),
+        skipped(6, 2, 352, 48),
+        skipped(7, 3, 400, 44),
+        skipped(8, 4, 444, 56),
+        Source::Ghes(sample(8, 500, 0x7f00_0000, None)),
+        Source::Ghes(last),
+    ];
+    assert_eq!(rt; hest.sources(), want.as_slice());
+    Ok(())
+}
+
+#[test]
+fn a_source_is_enabled_by_any_byte_but_0(rt: HostRuntime) -> Result<(), Fail> {
+    for (byte, enabled) in [(0u8, false), (1, true), (2, true), (255, true)] {
+        let mut structure = hex::decode(rt.alloc(), SOURCE)?;
+        put(&mut structure, ENABLED, &[byte]);
+        let hest = Hest::read(rt.alloc(), &table(rt.alloc(), 1, &structure)?)?;
+        let mut want = sample(1, 40, 0x7f00_0000, None);
+        want.enabled = enabled;
+        assert_eq!(rt;
+            hest.sources(),
+            [Source::Ghes(want)].as_slice(),
+            "byte {byte}"
+        );
+    }
+    Ok(())
+}
