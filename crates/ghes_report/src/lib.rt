@@ -4,8 +4,10 @@
 mod body;
 mod bytes;
 mod entry;
+mod laws;
 mod report;
 #[cfg(test)]
 mod tests;
 
+pub use laws::{a_higher_limit_lets_a_block_in, bytes_behind_a_block_are_not_printed};
 pub use report::{block_text, drop_text, report_text};
