@@ -1,4 +1,5 @@
-//! Makes the texts of status blocks: of a report, of a dropped block, and of a block alone.
+//! Makes the texts of status blocks, for what prints them: of a report, of a dropped block, and of a block alone.
+//! Each call appends exactly the text that specs/ spells, or nothing where memory is short.
 #![tactic(auto)]
 
 mod body;
