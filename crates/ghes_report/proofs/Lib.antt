@@ -1,3 +1,5 @@
 mod BodyLemmas
 mod Joining
+pub mod LimitLemmas
+pub mod OwnBytes
 mod ShownLemmas

@@ -1,11 +1,14 @@
-//! Makes the texts of status blocks: of a report, of a dropped block, and of a block alone.
+//! Makes the texts of status blocks, for what prints them: of a report, of a dropped block, and of a block alone.
+//! Each call appends exactly the text that specs/ spells, or nothing where memory is short.
 #![tactic(auto)]
 
 mod body;
 mod bytes;
 mod entry;
+mod laws;
 mod report;
 #[cfg(test)]
 mod tests;
 
+pub use laws::{a_higher_limit_lets_a_block_in, bytes_behind_a_block_are_not_printed};
 pub use report::{block_text, drop_text, malformed_lines, report_text};

@@ -29,7 +29,8 @@ fn drop_line(alloc: Global, id: u16, seq: u32, reason: &Malformed) -> Result<Str
 
 /// Appends the text of a block that is reported: its source's id, its number, and its lines.
 ///
-/// The bytes behind the block are not read. After an error `into` is as it was.
+/// `block` begins with a well-formed block of at most 65,536 bytes; what lies behind it is not printed.
+/// After an error `into` is as it was. Source of the words: own choice.
 #[tactic(auto, using(crate::proofs::Joining::grouped), unfolding(crate::specs::Report::report_text))]
 pub fn report_text(
     alloc: Global,
@@ -51,7 +52,7 @@ pub fn report_text(
 
 /// Appends the text of a block that is dropped as malformed: its source's id, its number, why, and its bytes.
 ///
-/// After an error `into` is as it was.
+/// After an error `into` is as it was. Source of the words: own choice.
 #[tactic(auto, using(crate::proofs::Joining::grouped), unfolding(crate::specs::Report::drop_text))]
 pub fn drop_text(
     alloc: Global,
@@ -71,7 +72,8 @@ pub fn drop_text(
 
 /// Appends the lines of a block: its severity, its entries in order, and how many raw bytes it has.
 ///
-/// The bytes behind the block are not read. After an error `into` is as it was.
+/// `block` begins with a well-formed block of at most 65,536 bytes; what lies behind it is not printed.
+/// After an error `into` is as it was. Source of the words: own choice.
 pub fn block_text(alloc: Global, into: &mut Vec<u8>, block: &[u8]) -> Result<(), AllocError>
     requires { Judges block.now 65536 None }
     ensures ok { OnOk result (into.new.items ≡ into.old.items ++ block_text block.now) }
