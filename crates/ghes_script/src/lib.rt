@@ -7,6 +7,8 @@ mod forms;
 mod laws;
 mod line;
 mod script;
+#[cfg(test)]
+mod tests;
 
 pub use error::{BadLine, ScriptError, ScriptKind};
 pub use laws::{a_script_is_read_in_one_way, a_script_raises_blocks};
