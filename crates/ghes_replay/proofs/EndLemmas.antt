@@ -7,6 +7,7 @@ use Rattle.apei_hest.specs.declared.source.Source.{Source}
 use Rattle.apei_hest.proofs.LawLemmas.{one_judgement}
 use Rattle.ghes_outside.specs.Outside.{Rose, Agrees, IsLonger}
 use Rattle.ghes_outside.specs.declared.files.LoadError.TheVariants as loads
+use Rattle.ghes_script.specs.declared.error.BadLine.{BadLine}
 use Rattle.ghes_script.specs.declared.line.Line.{Line}
 use Rattle.ghes_replay.specs.declared.exit.InputFile.TheVariants as files
 use Rattle.ghes_replay.specs.declared.exit.Refusal.{Refusal}
@@ -95,7 +96,7 @@ check_memory before after hest found (refusals.Load files.Hest loads.OutOfMemory
 check_memory before after hest found (refusals.Load files.Script why) unfailed tells cause = absurd cause
 
 -- a told script is not both accepted and refused
-not_refused_at : (seen : FilesSeen) (script : List ℕ) (ghes ghes' : Ghes) (bytes told : List ℕ) (lines : List Line) (at : ℕ) → ghes ≡ ghes' → IsLoaded seen script 16777216 bytes → IsTold seen script 16777216 told → IsRefusedAt ghes.id bytes at → IsScript ghes'.id told lines → ⊥
+not_refused_at : (seen : FilesSeen) (script : List ℕ) (ghes ghes' : Ghes) (bytes told : List ℕ) (lines : List Line) (at : BadLine) → ghes ≡ ghes' → IsLoaded seen script 16777216 bytes → IsTold seen script 16777216 told → IsRefusedAt ghes.id bytes at → IsScript ghes'.id told lines → ⊥
 not_refused_at seen script ghes ghes' bytes told lines at same l t refused spelled =
     let S : Ghes → Type 0 = λ source. IsScript source.id told lines in
     let T : List ℕ → Type 0 = λ xs. IsScript ghes.id xs lines in

@@ -4,6 +4,8 @@ use Rattle.std.specs.Fmt.{decimal}
 use Rattle.apei_hest.specs.Text.{hest_error_text}
 use Rattle.ghes_outside.specs.declared.files.LoadError.{LoadError}
 use Rattle.ghes_outside.specs.declared.files.LoadError.TheVariants as loads
+use Rattle.ghes_script.specs.Text.{kind_text}
+use Rattle.ghes_script.specs.declared.error.BadLine.{BadLine}
 use Rattle.ghes_replay.specs.declared.exit.InputFile.{InputFile}
 use Rattle.ghes_replay.specs.declared.exit.InputFile.TheVariants as files
 use Rattle.ghes_replay.specs.declared.exit.Refusal.{Refusal}
@@ -41,9 +43,9 @@ load_line name why = codes "ghes: read " ++ name ++ codes ": " ++ why ++ codes "
 unfoldable pub hest_line : List ℕ → List ℕ
 hest_line reason = codes "ghes: hest: " ++ reason ++ codes "\n"
 
--- the line for a refused script: each line that is none is an unknown command so far
-unfoldable pub script_line : ℕ → List ℕ
-script_line line = codes "ghes: script: line " ++ decimal line ++ codes ": 1 command\n"
+-- the line for a refused script, by its first bad line
+unfoldable pub script_line : BadLine → List ℕ
+script_line at = codes "ghes: script: line " ++ decimal at.line ++ codes ": " ++ kind_text at.kind ++ codes "\n"
 
 -- the line for want of memory
 abbrev pub memory_line : List ℕ

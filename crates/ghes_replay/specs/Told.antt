@@ -5,6 +5,7 @@ use Rattle.apei_hest.specs.declared.error.HestError.{HestError}
 use Rattle.apei_hest.specs.declared.source.Ghes.{Ghes}
 use Rattle.apei_hest.specs.declared.source.Source.{Source}
 use Rattle.ghes_outside.specs.Outside.{Rose}
+use Rattle.ghes_script.specs.declared.error.BadLine.{BadLine}
 use Rattle.ghes_script.specs.declared.line.Line.{Line}
 use Rattle.ghes_script.specs.Script.{IsScript, IsRefusedAt}
 use Rattle.ghes_replay.specs.Seen.{FilesSeen, SinkSeen, table_limit, script_limit}
@@ -65,7 +66,7 @@ pub record HasBadScript (words : List (List ℕ)) (before after : FilesSeen) : T
   pub table : TellsTable before hest ghes
   pub bytes : List ℕ
   pub told : IsTold before script script_limit bytes
-  pub at : ℕ
+  pub at : BadLine
   pub refused : IsRefusedAt ghes.id bytes at
   pub no_failed_load : Rose before.faults after.faults → ⊥
 

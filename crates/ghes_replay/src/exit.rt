@@ -5,6 +5,7 @@ ghost use Rattle.ghes_replay.specs.Refusal.{status_of, file_name, load_error_tex
 
 use apei_hest::HestError;
 use ghes_outside::LoadError;
+use ghes_script::BadLine;
 use std::alloc::{AllocError, Global};
 
 /// The files that a replay reads.
@@ -25,8 +26,8 @@ pub enum Refusal {
     Hest(HestError),
     /// The table is accepted, and a replay does not serve its sources so far. Status 3.
     NotBuilt,
-    /// The script's line of this number, from 1 on, is its first bad one. Status 4.
-    Script(u32),
+    /// This is the script's first bad line. Status 4.
+    Script(BadLine),
     /// Status 7.
     OutOfMemory,
 }
@@ -84,10 +85,12 @@ fn hest_line(alloc: Global, error: HestError) -> Result<String, AllocError>
 }
 
 // The line for a refused script.
-fn script_line(alloc: Global, line: u32) -> Result<String, AllocError>
-    ensures { IfOk result (λ text. string_bytes text ≡ script_line line) }
+fn script_line(alloc: Global, at: BadLine) -> Result<String, AllocError>
+    ensures { IfOk result (λ text. string_bytes text ≡ script_line at) }
 {
-    format!(in alloc; "ghes: script: line {line}: 1 command\n")
+    let number = at.line;
+    let kind = at.kind;
+    format!(in alloc; "ghes: script: line {number}: {kind}\n")
 }
 
 impl Refusal {

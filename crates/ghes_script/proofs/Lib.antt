@@ -1,3 +1,4 @@
+pub mod BlockLemmas
 pub mod LineLemmas
 pub mod OneReading
 pub mod Scanning

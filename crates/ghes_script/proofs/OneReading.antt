@@ -1,14 +1,17 @@
--- A script is read in one way: its first line is determined, and no script has a line that is refused.
-use Rattle.std.proofs.Common.{◌≡◌, ◌≢◌, ◌<◌, ℕ, ◌+◌, List, [], ◌∷◌, ◌++◌, length, ◌⊎◌, inl, inr, refl, sym, ap, subst, ◌∙◌, arith}
+-- A script is read in one way: its lines are determined, no script has a bad line, and the first bad line is determined.
+use Rattle.std.proofs.Common.{◌≡◌, ◌≢◌, ◌<◌, ℕ, ◌+◌, List, [], ◌∷◌, ◌++◌, length, ◌⊎◌, inl, inr, Ok, IsErr, refl, sym, ap, subst, ◌∙◌, arith, codes}
 use Rattle.std.specs.List.{AllByRecursion}
+use Rattle.ghes_script.specs.declared.error.BadLine.{BadLine}
+use Rattle.ghes_script.specs.declared.error.ScriptKind.{ScriptKind}
+use Rattle.ghes_script.specs.declared.error.ScriptKind.TheVariants.{Command, Hex, Range}
 use Rattle.ghes_script.specs.declared.line.Line.{Line}
 use Rattle.ghes_script.specs.declared.line.What.{What}
 use Rattle.ghes_script.specs.declared.line.What.TheVariants.{Raise, Nmi, Work}
 use Rattle.hex.specs.Hex.{decode_of}
 use Rattle.std.proofs.lemmas.Bool.{eqb-false}
 use Rattle.std.proofs.lemmas.List.{append_cancel_left}
-use Rattle.ghes_script.specs.Spelling.{raise_front}
-use Rattle.ghes_script.specs.Script.{IsLineOf, IsFirstLine, SpellsFrom, RefusesFrom}
+use Rattle.ghes_script.specs.Spelling.{nmi_line, raise_front, is_block}
+use Rattle.ghes_script.specs.Script.{IsBlock, IsNoBlock, IsRaise, IsLineOf, IsKindOf, IsFirstLine, SpellsFrom, RefusesFrom}
 
 -- no byte is a line feed
 abbrev OneLine : List ℕ → Type 0
@@ -48,40 +51,115 @@ no_line_at_end bytes text rest none first = by_cases first.cut where
   by_cases (inl e) = no_cut text [] rest tt (sym e ∙ none)
   by_cases (inr e) = let empty : length text ≡ 0 = ap length (sym e.0 ∙ none) in omega (arith, e.2)
 
+-- the first byte, by which the forms of a line differ
+abbrev first_byte : List ℕ → ℕ
+first_byte [] = 0
+first_byte (x ∷ xs) = x
+
+raise_not_nmi : (id : ℕ) (word text : List ℕ) → IsRaise id word text → text ≡ nmi_line id → ⊥
+raise_not_nmi id word text raise nmi = eqb-false 114 110 refl (ap first_byte (sym raise.spelled ∙ nmi))
+
+raise_not_work : (id : ℕ) (word text : List ℕ) → IsRaise id word text → text ≡ codes "work" → ⊥
+raise_not_work id word text raise work = eqb-false 114 119 refl (ap first_byte (sym raise.spelled ∙ work))
+
+nmi_not_work : (id : ℕ) (text : List ℕ) → text ≡ nmi_line id → text ≡ codes "work" → ⊥
+nmi_not_work id text nmi work = eqb-false 110 119 refl (ap first_byte (sym nmi ∙ work))
+
+-- the word of a line `raise` is determined
+one_word : (id : ℕ) (word word' text : List ℕ) → IsRaise id word text → IsRaise id word' text → word ≡ word'
+one_word id word word' text raise raise' = append_cancel_left (raise_front id) word word' (sym raise.spelled ∙ raise'.spelled)
+
+-- a line asks for one thing
+same_what : (id : ℕ) (text : List ℕ) (first second : What) → IsLineOf id first text → IsLineOf id second text → first ≡ second
+same_what id text (Raise source block) (Raise source' block') line line' =
+    let words = one_word id line.1 line'.1 text line.2 line'.2 in
+    let decoded = sym line.3.0 ∙ ap decode_of words ∙ line'.3.0 in
+    let blocks : block ≡ block' = cc in
+    let sources : source ≡ source' = line.0 ∙ sym line'.0 in
+    cc
+same_what id text (Raise source block) (Nmi source') line line' = absurd (raise_not_nmi id line.1 text line.2 line'.1)
+same_what id text (Raise source block) Work line line' = absurd (raise_not_work id line.1 text line.2 line')
+same_what id text (Nmi source) (Raise source' block') line line' = absurd (raise_not_nmi id line'.1 text line'.2 line.1)
+same_what id text (Nmi source) (Nmi source') line line' = let sources : source ≡ source' = line.0 ∙ sym line'.0 in cc
+same_what id text (Nmi source) Work line line' = absurd (nmi_not_work id text line.1 line')
+same_what id text Work (Raise source' block') line line' = absurd (raise_not_work id line'.1 text line'.2 line)
+same_what id text Work (Nmi source') line line' = absurd (nmi_not_work id text line'.1 line)
+same_what id text Work Work line line' = refl
+
+-- digits that spell bytes are well-formed
+ok_not_err : (word word' bytes : List ℕ) → word ≡ word' → decode_of word ≡ Ok bytes → IsErr (decode_of word') → ⊥
+ok_not_err word word' bytes same decoded err =
+    let P : List ℕ → Type 0 = λ w. IsErr (decode_of w) in
+    let here : IsErr (decode_of word) = subst P (sym same) err in
+    cc
+
+-- a block that a script may raise is not one that it may not
+block_not_both : (word word' block bytes : List ℕ) → word ≡ word' → IsBlock word block → IsNoBlock word' bytes → ⊥
+block_not_both word word' block bytes same is none =
+    let decoded = sym is.0 ∙ ap decode_of same ∙ none.0 in
+    let blocks : block ≡ bytes = cc in
+    let yes = sym is.1 ∙ ap is_block blocks ∙ none.1 in
+    cc
+
+-- a line that asks for something is not bad
+line_not_bad : (id : ℕ) (text : List ℕ) (what : What) (kind : ScriptKind) → IsLineOf id what text → IsKindOf id text kind → ⊥
+line_not_bad id text (Raise source block) Command line bad = bad.2 line.1 line.2
+line_not_bad id text (Raise source block) Hex line bad = ok_not_err line.1 bad.0 block (one_word id line.1 bad.0 text line.2 bad.1) line.3.0 bad.2
+line_not_bad id text (Raise source block) Range line bad = block_not_both line.1 bad.0 block bad.2 (one_word id line.1 bad.0 text line.2 bad.1) line.3 bad.3
+line_not_bad id text (Nmi source) Command line bad = bad.1 line.1
+line_not_bad id text (Nmi source) Hex line bad = raise_not_nmi id bad.0 text bad.1 line.1
+line_not_bad id text (Nmi source) Range line bad = raise_not_nmi id bad.0 text bad.1 line.1
+line_not_bad id text Work Command line bad = bad.0 line
+line_not_bad id text Work Hex line bad = raise_not_work id bad.0 text bad.1 line
+line_not_bad id text Work Range line bad = raise_not_work id bad.0 text bad.1 line
+
+-- a bad line has one kind
+same_kind : (id : ℕ) (text : List ℕ) (first second : ScriptKind) → IsKindOf id text first → IsKindOf id text second → first ≡ second
+same_kind id text Command Command bad bad' = refl
+same_kind id text Command Hex bad bad' = absurd (bad.2 bad'.0 bad'.1)
+same_kind id text Command Range bad bad' = absurd (bad.2 bad'.0 bad'.1)
+same_kind id text Hex Command bad bad' = absurd (bad'.2 bad.0 bad.1)
+same_kind id text Hex Hex bad bad' = refl
+same_kind id text Hex Range bad bad' = absurd (ok_not_err bad'.0 bad.0 bad'.2 (one_word id bad'.0 bad.0 text bad'.1 bad.1) bad'.3.0 bad.2)
+same_kind id text Range Command bad bad' = absurd (bad'.2 bad.0 bad.1)
+same_kind id text Range Hex bad bad' = absurd (ok_not_err bad.0 bad'.0 bad.2 (one_word id bad.0 bad'.0 text bad.1 bad'.1) bad.3.0 bad'.2)
+same_kind id text Range Range bad bad' = refl
+
 -- what is a script is not refused
-pub not_both : (id number : ℕ) (bytes : List ℕ) (lines others : List Line) (at : ℕ) → SpellsFrom id number bytes lines → RefusesFrom id number bytes others at → ⊥
-not_both id number bytes [] [] at spells (text, rest, first, nothing, here) = no_line_at_end bytes text rest spells first
+pub not_both : (id number : ℕ) (bytes : List ℕ) (lines others : List Line) (at : BadLine) → SpellsFrom id number bytes lines → RefusesFrom id number bytes others at → ⊥
+not_both id number bytes [] [] at spells (text, rest, first, numbered, bad) = no_line_at_end bytes text rest spells first
 not_both id number bytes [] (other ∷ others) at spells (text, rest, first, numbered, asks, more) = no_line_at_end bytes text rest spells first
-not_both id number bytes (line ∷ lines) [] at (text, rest, first, numbered, asks, more) (text', rest', first', nothing, here) =
+not_both id number bytes (line ∷ lines) [] at (text, rest, first, numbered, asks, more) (text', rest', first', numbered', bad) =
     let same = first_line_once bytes text text' rest rest' first first' in
     let P : List ℕ → Type 0 = λ t. IsLineOf id line.what t in
-    nothing line.what (subst P same.0 asks)
+    line_not_bad id text' line.what at.kind (subst P same.0 asks) bad
 not_both id number bytes (line ∷ lines) (other ∷ others) at (text, rest, first, numbered, asks, more) (text', rest', first', numbered', asks', more') =
     let same = first_line_once bytes text text' rest rest' first first' in
     let P : List ℕ → Type 0 = λ r. SpellsFrom id (number + 1) r lines in
     not_both id (number + 1) rest' lines others at (subst P same.1 more) more'
 
--- the first byte, by which lines of two kinds differ
-abbrev first_byte : List ℕ → ℕ
-first_byte [] = 0
-first_byte (x ∷ xs) = x
+abbrev bad_with : ℕ → ScriptKind → BadLine
+bad_with line kind = record { line = line; kind = kind }
 
--- a line asks for one thing
-same_what : (id : ℕ) (text : List ℕ) (first second : What) → IsLineOf id first text → IsLineOf id second text → first ≡ second
-same_what id text (Raise source block) (Raise source' block') line line' =
-    let digits : line.1 ≡ line'.1 = append_cancel_left (raise_front id) line.1 line'.1 (sym line.2.spelled ∙ line'.2.spelled) in
-    let decoded = sym line.2.decoded ∙ ap decode_of digits ∙ line'.2.decoded in
-    let blocks : block ≡ block' = cc in
-    let sources : source ≡ source' = line.0 ∙ sym line'.0 in
-    cc
-same_what id text (Raise source block) (Nmi source') line line' = absurd (eqb-false 114 110 refl (ap first_byte (sym line.2.spelled ∙ line'.1)))
-same_what id text (Raise source block) Work line line' = absurd (eqb-false 114 119 refl (ap first_byte (sym line.2.spelled ∙ line')))
-same_what id text (Nmi source) (Raise source' block') line line' = absurd (eqb-false 110 114 refl (ap first_byte (sym line.1 ∙ line'.2.spelled)))
-same_what id text (Nmi source) (Nmi source') line line' = let sources : source ≡ source' = line.0 ∙ sym line'.0 in cc
-same_what id text (Nmi source) Work line line' = absurd (eqb-false 110 119 refl (ap first_byte (sym line.1 ∙ line')))
-same_what id text Work (Raise source' block') line line' = absurd (eqb-false 119 114 refl (ap first_byte (sym line ∙ line'.2.spelled)))
-same_what id text Work (Nmi source') line line' = absurd (eqb-false 119 110 refl (ap first_byte (sym line ∙ line'.1)))
-same_what id text Work Work line line' = refl
+-- bytes are refused at one line and for one kind
+pub one_refusal : (id number : ℕ) (bytes : List ℕ) (lines others : List Line) (first second : BadLine) → RefusesFrom id number bytes lines first → RefusesFrom id number bytes others second → first ≡ second
+one_refusal id number bytes [] [] first second (text, rest, cut, numbered, bad) (text', rest', cut', numbered', bad') =
+    let same = first_line_once bytes text text' rest rest' cut cut' in
+    let P : List ℕ → Type 0 = λ t. IsKindOf id t first.kind in
+    let kinds = same_kind id text' first.kind second.kind (subst P same.0 bad) bad' in
+    ap (λ n. bad_with n first.kind) (numbered ∙ sym numbered') ∙ ap (bad_with second.line) kinds
+one_refusal id number bytes [] (other ∷ others) first second (text, rest, cut, numbered, bad) (text', rest', cut', numbered', asks', more') =
+    let same = first_line_once bytes text' text rest' rest cut' cut in
+    let P : List ℕ → Type 0 = λ t. IsLineOf id other.what t in
+    absurd (line_not_bad id text other.what first.kind (subst P same.0 asks') bad)
+one_refusal id number bytes (line ∷ lines) [] first second (text, rest, cut, numbered, asks, more) (text', rest', cut', numbered', bad') =
+    let same = first_line_once bytes text text' rest rest' cut cut' in
+    let P : List ℕ → Type 0 = λ t. IsLineOf id line.what t in
+    absurd (line_not_bad id text' line.what second.kind (subst P same.0 asks) bad')
+one_refusal id number bytes (line ∷ lines) (other ∷ others) first second (text, rest, cut, numbered, asks, more) (text', rest', cut', numbered', asks', more') =
+    let same = first_line_once bytes text text' rest rest' cut cut' in
+    let P : List ℕ → Type 0 = λ r. RefusesFrom id (number + 1) r lines first in
+    one_refusal id (number + 1) rest' lines others first second (subst P same.1 more) more'
 
 abbrev line_with : ℕ → What → Line
 line_with number what = record { number = number; what = what }

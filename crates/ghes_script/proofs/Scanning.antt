@@ -1,13 +1,15 @@
 -- A script that is read up to a line: whatever the rest spells completes the lines so far.
 use Rattle.std.proofs.Common.{◌≡◌, ℕ, ◌+◌, List, [], ◌∷◌, ◌++◌, length, sym, subst, append_assoc, append-nil}
 use Rattle.std.proofs.lemmas.List.{length_push}
+use Rattle.ghes_script.specs.declared.error.BadLine.{BadLine}
+use Rattle.ghes_script.specs.declared.error.ScriptKind.{ScriptKind}
 use Rattle.ghes_script.specs.declared.line.Line.{Line}
 use Rattle.ghes_script.specs.declared.line.What.{What}
-use Rattle.ghes_script.specs.Script.{IsLineOf, IsFirstLine, SpellsFrom, RefusesFrom, IsScript, IsRefusedAt}
+use Rattle.ghes_script.specs.Script.{IsLineOf, IsKindOf, IsFirstLine, SpellsFrom, RefusesFrom, IsScript, IsRefusedAt}
 
 pub record Scans (id : ℕ) (bytes : List ℕ) (lines : List Line) (rest : List ℕ) : Type 0 where
   pub spells : (more : List Line) → SpellsFrom id (length lines + 1) rest more → SpellsFrom id 1 bytes (lines ++ more)
-  pub refuses : (more : List Line) (at : ℕ) → RefusesFrom id (length lines + 1) rest more at → RefusesFrom id 1 bytes (lines ++ more) at
+  pub refuses : (more : List Line) (at : BadLine) → RefusesFrom id (length lines + 1) rest more at → RefusesFrom id 1 bytes (lines ++ more) at
 
 -- nothing is read yet
 pub scans_none : (id : ℕ) (bytes : List ℕ) (lines : List Line) → lines ≡ [] → Scans id bytes lines bytes
@@ -37,7 +39,7 @@ scans_end id bytes lines rest none scans =
     let S : List Line → Type 0 = λ xs. SpellsFrom id 1 bytes xs in
     subst S (append-nil lines) (scans.spells [] none)
 
--- a line that asks for nothing
-pub scans_bad : (id : ℕ) (bytes : List ℕ) (lines : List Line) (number : ℕ) (rest text after : List ℕ) → number ≡ length lines + 1 → IsFirstLine rest text after → ((what : What) → IsLineOf id what text → ⊥) → Scans id bytes lines rest → IsRefusedAt id bytes number
-scans_bad id bytes lines number rest text after numbered first nothing scans =
-    (lines ++ [], scans.refuses [] number (text, after, first, nothing, numbered))
+-- a bad line
+pub scans_bad : (id : ℕ) (bytes : List ℕ) (lines : List Line) (number : ℕ) (kind : ScriptKind) (rest text after : List ℕ) → number ≡ length lines + 1 → IsFirstLine rest text after → IsKindOf id text kind → Scans id bytes lines rest → IsRefusedAt id bytes (record { line = number; kind = kind })
+scans_bad id bytes lines number kind rest text after numbered first bad scans =
+    (lines ++ [], scans.refuses [] (record { line = number; kind = kind }) (text, after, first, numbered, bad))

@@ -1,28 +1,26 @@
 -- What reading a script answers.
-use Rattle.std.specs.Prelude.{◌≡◌, ℕ, true, List, Ok, Option, Some, None}
+use Rattle.std.specs.Prelude.{ℕ, List, Result, Ok, Err, IsErr}
 use Rattle.hex.specs.Hex.{decode_of}
-use Rattle.ghes_script.specs.Spelling.{is_bare}
+use Rattle.ghes_script.specs.declared.error.ScriptError.{ScriptError}
+use Rattle.ghes_script.specs.declared.error.ScriptError.TheVariants as errors
+use Rattle.ghes_script.specs.declared.error.ScriptKind.{ScriptKind}
+use Rattle.ghes_script.specs.declared.error.ScriptKind.TheVariants.{Command, Hex, Range}
 use Rattle.ghes_script.specs.declared.line.What.{What}
-use Rattle.ghes_script.specs.declared.script.ScriptError.{ScriptError}
-use Rattle.ghes_script.specs.declared.script.ScriptError.TheVariants as errors
-use Rattle.ghes_script.specs.Script.{IsRaise, IsLineOf, IsRefusedAt}
+use Rattle.ghes_script.specs.Script.{IsBlock, IsNoBlock, IsLineOf, IsKindOf, IsRefusedAt}
 
--- the block that digits spell, or that they spell none that a script may raise
-abbrev pub ReadsBlock : List ℕ → Option (List ℕ) → Type 0
-ReadsBlock digits None = (block : List ℕ) → decode_of digits ≡ Ok block → is_bare block ≡ true → ⊥
-ReadsBlock digits (Some block) = (decode_of digits ≡ Ok block) × (is_bare block ≡ true)
+-- the block that a word spells, or which kind of bad word it is
+abbrev pub ReadsBlock : List ℕ → Result (List ℕ) ScriptKind → Type 0
+ReadsBlock word (Ok block) = IsBlock word block
+ReadsBlock word (Err Command) = ⊥
+ReadsBlock word (Err Hex) = IsErr (decode_of word)
+ReadsBlock word (Err Range) = (bytes : List ℕ) × IsNoBlock word bytes
 
--- the block that a line `raise` asks for, or that the line is none
-abbrev pub ReadsRaise : ℕ → List ℕ → Option (List ℕ) → Type 0
-ReadsRaise id text None = (block digits : List ℕ) → IsRaise id block digits text → ⊥
-ReadsRaise id text (Some block) = (digits : List ℕ) × IsRaise id block digits text
+-- what a line asks for, or which kind of bad line it is
+abbrev pub ReadsLine : ℕ → List ℕ → Result What ScriptKind → Type 0
+ReadsLine id text (Ok what) = IsLineOf id what text
+ReadsLine id text (Err kind) = IsKindOf id text kind
 
--- what a line asks for, or that it asks for nothing
-abbrev pub ReadsLine : ℕ → List ℕ → Option What → Type 0
-ReadsLine id text None = (what : What) → IsLineOf id what text → ⊥
-ReadsLine id text (Some what) = IsLineOf id what text
-
--- a refusal names the first line that asks for nothing
+-- a refusal names the first bad line and its kind
 abbrev pub BlamesLine : ℕ → List ℕ → ScriptError → Type 0
 BlamesLine id bytes (errors.Line at) = IsRefusedAt id bytes at
 BlamesLine id bytes errors.OutOfMemory = Unit {0}

@@ -1,18 +1,18 @@
 -- How the lines of a script are spelled, and which blocks they may raise (own choice).
-use Rattle.std.specs.Prelude.{ℕ, Bool, not, ◌&&◌, ◌==◌, nat_le, List, ◌++◌, length, drop, codes}
+use Rattle.std.specs.Prelude.{◌≢◌, ◌<◌, ℕ, Bool, not, ◌&&◌, ◌==◌, nat_le, List, ◌++◌, length, codes}
 use Rattle.std.specs.Fmt.{decimal}
+use Rattle.std.specs.List.{AllByRecursion}
 use Rattle.byteorder.specs.Endian.{little_number}
 
--- the number of four bytes at an offset
-abbrev pub word_at : ℕ → List ℕ → ℕ
-word_at offset bytes = little_number 4 (drop offset bytes)
+-- A block that a script may raise has 20 to 65,536 bytes, and its block status, the first four of them, is not 0
+-- (ACPI 6.5, 18.3.2.7.1; the sizes: own choice).
+abbrev pub is_block : List ℕ → Bool
+is_block block = nat_le 20 (length block) && nat_le (length block) 65536 && not (little_number 4 block == 0)
 
--- A block that a script may raise so far: a header of 20 bytes alone, with a block status, without raw data
--- and data entries, and not fatal (ACPI 6.5, 18.3.2.7.1; the form: own choice).
-abbrev pub is_bare : List ℕ → Bool
-is_bare block =
-    (length block == 20) && not (word_at 0 block == 0) && (word_at 8 block == 0) && (word_at 12 block == 0)
-    && nat_le (word_at 16 block) 3 && not (word_at 16 block == 1)
+-- a word has at least one byte, and no space (own choice)
+pub record IsWord (word : List ℕ) : Type 0 where
+  pub some_byte : 0 < length word
+  pub no_space : AllByRecursion (λ byte. byte ≢ 32) word
 
 -- the line `nmi`, and the front of a line `raise`, of the source with this id
 abbrev pub nmi_line : ℕ → List ℕ

@@ -2,11 +2,15 @@
 //! refused at its first bad line.
 #![tactic(auto)]
 
+mod error;
 mod forms;
 mod laws;
 mod line;
 mod script;
+#[cfg(test)]
+mod tests;
 
-pub use laws::a_script_is_read_in_one_way;
+pub use error::{BadLine, ScriptError, ScriptKind};
+pub use laws::{a_script_is_read_in_one_way, a_script_raises_blocks};
 pub use line::{Line, What};
-pub use script::{ScriptError, read_script};
+pub use script::read_script;

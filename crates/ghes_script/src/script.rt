@@ -1,90 +1,69 @@
-ghost use Rattle.std.specs.Prelude.{◌≡◌, ◌<◌, ◌≤◌, ◌^◌, ◌-◌, ℕ, List, length, IfOk, IfErr, MatchOption, Ok, true, vec_len};
-ghost use Rattle.ghes_script.specs.declared.line.What.{What};
-ghost use Rattle.ghes_script.specs.declared.script.ScriptError.TheVariants as errors;
-ghost use Rattle.ghes_script.specs.Spelling.{is_bare};
-ghost use Rattle.ghes_script.specs.Script.{IsLineOf, IsFirstLine, IsScript, IsRefusedAt};
-ghost use Rattle.ghes_script.specs.Reading.{ReadsBlock, ReadsRaise, ReadsLine, BlamesLine};
+ghost use Rattle.std.specs.Prelude.{◌≡◌, ◌<◌, ◌≤◌, ◌^◌, ◌-◌, ◌↔◌, length, IfOk, IfErr, IsTrue, MatchOption, vec_len};
+ghost use Rattle.ghes_script.specs.Spelling.{is_block, IsWord};
+ghost use Rattle.ghes_script.specs.Script.{IsRaise, IsNoRaise, IsFirstLine, IsScript};
+ghost use Rattle.ghes_script.specs.Reading.{ReadsBlock, ReadsLine, BlamesLine};
 
 use crate::forms::Forms;
-use crate::{Line, What};
+use crate::{BadLine, Line, ScriptError, ScriptKind, What};
 use apei_base::Bytes;
 use byteorder::{ByteOrder, LittleEndian};
 use hex::FromHexError;
 use memchr::memchr;
-use std::alloc::{AllocError, AllocFailed, Global};
+use std::alloc::{AllocError, Global};
 
-/// Why a script is refused.
-#[derive(Clone, Copy, Debug, PartialEq, Eq)]
-pub enum ScriptError {
-    /// The first line that asks for nothing has this number.
-    Line(u32),
-    OutOfMemory,
-}
-
-impl From<AllocError> for ScriptError {
-    ghost from_gives = { λ _ e. e ≡ errors.OutOfMemory };
-
-    fn from(_: AllocError) -> ScriptError {
-        ScriptError::OutOfMemory
-    }
-}
-
-impl<T: Drop> From<AllocFailed<T>> for ScriptError {
-    ghost from_gives = { λ _ e. e ≡ errors.OutOfMemory };
-
-    fn from(_: AllocFailed<T>) -> ScriptError {
-        ScriptError::OutOfMemory
-    }
-}
-
-// Whether a block is a header alone, as a script may raise it so far.
-fn is_bare(block: &[u8]) -> bool
-    ensures { result ≡ is_bare block.now }
+// Whether a script may raise these bytes as a block.
+fn is_block(bytes: &[u8]) -> bool
+    ensures { result ≡ is_block bytes.now }
 {
-    if block.len() != 20 {
-        return false;
-    }
-    let status = LittleEndian::read_u32(block);
-    let raw_length = LittleEndian::read_u32(&block[8..]);
-    let data_length = LittleEndian::read_u32(&block[12..]);
-    let severity = LittleEndian::read_u32(&block[16..]);
-    status != 0 && raw_length == 0 && data_length == 0 && severity <= 3 && severity != 1
+    bytes.len() >= 20 && bytes.len() <= 65_536 && LittleEndian::read_u32(bytes) != 0
 }
 
-// The block that hexadecimal digits spell, if a script may raise it.
-fn read_block(alloc: Global, digits: &[u8]) -> Result<Option<Bytes>, AllocError>
-    ensures { IfOk result (ReadsBlock digits.now) }
+// The block that a word spells, if a script may raise it.
+fn read_block(alloc: Global, word: &[u8]) -> Result<Result<Bytes, ScriptKind>, AllocError>
+    ensures { IfOk result (ReadsBlock word.now) }
 {
-    match hex::decode(alloc, digits) {
-        Ok(block) if is_bare(&block) => Ok(Some(Bytes(block))),
+    match hex::decode(alloc, word) {
+        Ok(block) if is_block(&block) => Ok(Ok(Bytes(block))),
+        Ok(_) => Ok(Err(ScriptKind::Range)),
         Err(FromHexError::OutOfMemory) => Err(AllocError),
-        _ => Ok(None),
+        Err(_) => Ok(Err(ScriptKind::Hex)),
     }
 }
 
-// The block that a line `raise` of the source asks for.
-fn read_raise(alloc: Global, forms: &Forms, text: &[u8]) -> Result<Option<Bytes>, AllocError>
-    ensures { IfOk result (ReadsRaise forms.now.id text.now) }
+// Whether bytes are one word.
+fn is_word(bytes: &[u8]) -> bool
+    ensures { IsTrue result ↔ IsWord bytes.now }
+{
+    !bytes.is_empty() && memchr(b' ', bytes).is_none()
+}
+
+// The word of a line `raise` of the source, if the text has this form.
+fn raised_word<'a>(forms: &Forms, text: &'a [u8]) -> Option<&'a [u8]>
+    ensures { MatchOption result (IsNoRaise forms.now.id text.now) (λ word. IsRaise forms.now.id word.now text.now) }
 {
     match text.strip_prefix(forms.raise.as_bytes()) {
-        Some(digits) => read_block(alloc, digits),
-        None => Ok(None),
+        Some(word) if is_word(word) => Some(word),
+        _ => None,
     }
 }
 
-// What a line asks for, without its line feed.
-fn read_line(alloc: Global, forms: &Forms, text: &[u8]) -> Result<Option<What>, AllocError>
+// What a line asks for, without its line feed, or what is wrong with it.
+fn read_line(
+    alloc: Global,
+    forms: &Forms,
+    text: &[u8],
+) -> Result<Result<What, ScriptKind>, AllocError>
     ensures { IfOk result (ReadsLine forms.now.id text.now) }
 {
     if text == b"work".as_slice() {
-        return Ok(Some(What::Work));
+        return Ok(Ok(What::Work));
     }
     if text == forms.nmi.as_bytes() {
-        return Ok(Some(What::Nmi(0)));
+        return Ok(Ok(What::Nmi(0)));
     }
-    match read_raise(alloc, forms, text)? {
-        Some(block) => Ok(Some(What::Raise(0, block))),
-        None => Ok(None),
+    match raised_word(forms, text) {
+        Some(word) => Ok(read_block(alloc, word)?.map(|block| What::Raise(0, block))),
+        None => Ok(Err(ScriptKind::Command)),
     }
 }
 
@@ -105,7 +84,7 @@ fn first_line(bytes: &[u8]) -> (&[u8], &[u8])
 
 /// Reads a script of the one source, which has this id.
 ///
-/// The first line that asks for nothing is refused, by its number from 1 on. Own choice.
+/// The first bad line is refused, by its number from 1 on and by its kind. Own choice.
 pub fn read_script(alloc: Global, id: u16, bytes: &[u8]) -> Result<Vec<Line>, ScriptError>
     requires { length bytes.now < 2 ^ 32 - 1 }
     ensures found { IfOk result (λ lines. IsScript id bytes.now lines.items) }
@@ -119,8 +98,8 @@ pub fn read_script(alloc: Global, id: u16, bytes: &[u8]) -> Result<Vec<Line>, Sc
         let (text, after) = first_line(rest);
         let number = lines.len() as u32 + 1;
         match read_line(alloc, &forms, text)? {
-            Some(what) => lines.push(Line { number, what })?,
-            None => return Err(ScriptError::Line(number)),
+            Ok(what) => lines.push(Line { number, what })?,
+            Err(kind) => return Err(ScriptError::Line(BadLine { line: number, kind })),
         }
         rest = after;
     }
