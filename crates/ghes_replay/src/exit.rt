@@ -7,11 +7,12 @@ use apei_hest::HestError;
 use ghes_outside::LoadError;
 use std::alloc::{AllocError, Global};
 
-/// The files that a replay reads.
+/// The files that a run reads.
 #[derive(Clone, Copy, Debug, PartialEq, Eq)]
 pub enum InputFile {
     Hest,
     Script,
+    Block,
 }
 
 /// Why a run is refused.
@@ -49,7 +50,7 @@ fn file_name(words: &[String], file: InputFile) -> &str
     ensures { result.now ≡ file_name (map string_bytes words.now) file }
 {
     let word = match file {
-        InputFile::Hest => words.get(1),
+        InputFile::Hest | InputFile::Block => words.get(1),
         InputFile::Script => words.get(3),
     };
     match word {

@@ -4,6 +4,7 @@
 mod blocks;
 mod call;
 mod check;
+mod decode;
 mod doing;
 mod execute;
 mod exit;
@@ -24,4 +25,4 @@ pub use exit::{InputFile, Refusal};
 pub use laws::{a_ledger_tells_one_history, each_block_has_one_fate};
 pub use ledger::{AckState, Call, Ledger, Mark, Outcome, Reply, Report, Reported, Taken};
 pub use pending::Packet;
-pub use run::{RunEnd, check_run, ghes_run};
+pub use run::{RunEnd, check_run, decode_run, ghes_run};
