@@ -6,9 +6,9 @@ ghost use Rattle.ghes_replay.specs.Lawful.{IsLawful};
 ghost use Rattle.ghes_script.specs.Script.{IsOfFirst};
 ghost use Rattle.ghes_replay.specs.Text.{step_text, replay_text};
 
+use crate::Ledger;
 use crate::execute::Replay;
 use crate::text::{step_text, summary_text};
-use crate::Ledger;
 use ghes_script::Line;
 use std::alloc::{AllocError, Global};
 
