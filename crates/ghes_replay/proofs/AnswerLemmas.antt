@@ -4,7 +4,7 @@ use Rattle.ghes_replay.specs.declared.exit.Refusal.{Refusal}
 use Rattle.ghes_replay.specs.declared.exit.Refusal.TheVariants as refusals
 use Rattle.ghes_replay.specs.Kept.{Kept}
 use Rattle.ghes_replay.specs.Seen.{FilesSeen}
-use Rattle.ghes_replay.specs.Task.{Task, Replay, Check, IsTask, IsFileOf, IsFileWord}
+use Rattle.ghes_replay.specs.Task.{Task, Replay, Check, Decode, IsTask, IsFileOf, IsFileWord}
 use Rattle.ghes_replay.specs.Run.{TaskCause, Cause, LoadsSource, Does, Answers}
 use Rattle.ghes_replay.proofs.LoadLemmas.{loads_weaker}
 
@@ -12,6 +12,7 @@ use Rattle.ghes_replay.proofs.LoadLemmas.{loads_weaker}
 cause_of : (words : List (List ℕ)) (before after : FilesSeen) (task : Task) (refusal : Refusal) → IsTask words task → TaskCause before after task refusal → Cause words before after refusal
 cause_of words before after (Replay hest script) refusals.Usage asked cause = absurd cause
 cause_of words before after (Check hest) refusals.Usage asked cause = absurd cause
+cause_of words before after (Decode block) refusals.Usage asked cause = absurd cause
 cause_of words before after task (refusals.Load file why) asked cause = (task, asked, cause)
 cause_of words before after task (refusals.Hest error) asked cause = (task, asked, cause)
 cause_of words before after task refusals.NotBuilt asked cause = (task, asked, cause)

@@ -1,5 +1,5 @@
 -- What follows from how a run ends: what is accepted is done, and what is refused gets its status.
-use Rattle.std.proofs.Common.{◌≡◌, ◌<◌, ◌⊎◌, ℕ, List, [], ◌∷◌, length, codes, Option, Some, None, Result, Ok, Err, inl, inr, refl, sym, ap, subst, ◌∙◌, arith}
+use Rattle.std.proofs.Common.{◌≡◌, ◌<◌, ◌⊎◌, ℕ, IsTrue, List, [], ◌∷◌, length, codes, Option, Some, None, Result, Ok, Err, inl, inr, refl, sym, ap, subst, ◌∙◌, arith}
 use Rattle.apei_hest.specs.Hest.{Judges}
 use Rattle.apei_hest.specs.declared.error.HestError.{HestError}
 use Rattle.apei_hest.specs.declared.source.Ghes.{Ghes}
@@ -17,10 +17,11 @@ use Rattle.ghes_replay.specs.Refusal.{status_of, line_of, refused_word}
 use Rattle.ghes_script.specs.Script.{IsScript, IsRefusedAt}
 use Rattle.ghes_replay.specs.Seen.{FilesSeen, SinkSeen, IsLoaded}
 use Rattle.ghes_replay.specs.Served.{served}
-use Rattle.ghes_replay.specs.Task.{Task, Replay, Check, IsTask, table_of}
+use Rattle.ghes_replay.specs.Task.{Task, Replay, Check, Decode, IsTask}
+use Rattle.ghes_replay.specs.Decode.{DecodeCause}
 use Rattle.ghes_replay.specs.Loading.{HasHest, HasTable, HestCause}
-use Rattle.ghes_replay.specs.Run.{IsDone, TaskCause, Cause, WasPut, EndsBy, PutsText, IsUnlessFault, done_status}
-use Rattle.ghes_replay.specs.Told.{IsTold, TellsHest, TellsTable, Accepts, RefusesHest, IsNotServed, HasBadTable, HasUnserved, HasBadScript, IsAccepted}
+use Rattle.ghes_replay.specs.Run.{IsDone, TaskCause, Cause, WasPut, EndsBy, PutsText, is_decode_status, IsUnlessFault, done_status}
+use Rattle.ghes_replay.specs.Told.{IsTold, TellsHest, TellsTable, Accepts, RefusesHest, RefusesTable, IsNotServed, HasBadTable, HasUnserved, HasBadScript, IsAccepted}
 use Rattle.ghes_script.proofs.OneReading.{not_both}
 
 -- the words ask for one task
@@ -29,6 +30,11 @@ same_task words (Replay hest script) (Replay hest' script') is is' = cc
 same_task words (Replay hest script) (Check hest') is is' = cc
 same_task words (Check hest) (Replay hest' script') is is' = cc
 same_task words (Check hest) (Check hest') is is' = cc
+same_task words (Decode block) (Replay hest' script') is is' = cc
+same_task words (Decode block) (Check hest') is is' = cc
+same_task words (Decode block) (Decode block') is is' = cc
+same_task words (Replay hest script) (Decode block') is is' = cc
+same_task words (Check hest) (Decode block') is is' = cc
 
 -- what was loaded is what is told
 same_bytes : (seen : FilesSeen) (name : List ℕ) (limit : ℕ) (bytes told : List ℕ) → IsLoaded seen name limit bytes → IsTold seen name limit told → bytes ≡ told
@@ -94,6 +100,20 @@ check_memory before after hest found (refusals.Load files.Hest loads.Failed) unf
 check_memory before after hest found (refusals.Load files.Hest loads.TooLong) unfailed (told, t, k) longer = absurd (not_longer before hest 1048576 told t longer)
 check_memory before after hest found (refusals.Load files.Hest loads.OutOfMemory) unfailed tells cause = absurd cause
 check_memory before after hest found (refusals.Load files.Script why) unfailed tells cause = absurd cause
+check_memory before after hest found (refusals.Load files.Block why) unfailed tells cause = absurd cause
+
+-- a told block is not decoded for want of memory alone
+decode_memory : (before after : FilesSeen) (block bytes : List ℕ) (refusal : Refusal) → (Rose before.faults after.faults → ⊥) → IsTold before block 65536 bytes → DecodeCause before after block refusal → status_of refusal ≡ 7
+decode_memory before after block bytes refusals.Usage unfailed told cause = absurd cause
+decode_memory before after block bytes refusals.OutOfMemory unfailed told cause = refl
+decode_memory before after block bytes refusals.NotBuilt unfailed told cause = absurd cause
+decode_memory before after block bytes (refusals.Script line) unfailed told cause = absurd cause
+decode_memory before after block bytes (refusals.Hest error) unfailed told cause = absurd cause
+decode_memory before after block bytes (refusals.Load files.Block loads.Failed) unfailed told (rose, added) = absurd (unfailed rose)
+decode_memory before after block bytes (refusals.Load files.Block loads.TooLong) unfailed told longer = absurd (not_longer before block 65536 bytes told longer)
+decode_memory before after block bytes (refusals.Load files.Block loads.OutOfMemory) unfailed told cause = absurd cause
+decode_memory before after block bytes (refusals.Load files.Hest why) unfailed told cause = absurd cause
+decode_memory before after block bytes (refusals.Load files.Script why) unfailed told cause = absurd cause
 
 -- a told script is not both accepted and refused
 not_refused_at : (seen : FilesSeen) (script : List ℕ) (ghes ghes' : Ghes) (bytes told : List ℕ) (lines : List Line) (at : BadLine) → ghes ≡ ghes' → IsLoaded seen script 16777216 bytes → IsTold seen script 16777216 told → IsRefusedAt ghes.id bytes at → IsScript ghes'.id told lines → ⊥
@@ -105,6 +125,8 @@ not_refused_at seen script ghes ghes' bytes told lines at same l t refused spell
 -- an accepted task is refused for want of memory alone
 only_memory : (before after : FilesSeen) (task : Task) (refusal : Refusal) → (Rose before.faults after.faults → ⊥) → Accepts before task → TaskCause before after task refusal → status_of refusal ≡ 7
 only_memory before after (Check hest) refusal unfailed (found, tells) cause = check_memory before after hest found refusal unfailed tells cause
+only_memory before after (Decode block) refusal unfailed (bytes, told) cause = decode_memory before after block bytes refusal unfailed told cause
+only_memory before after (Replay hest script) (refusals.Load files.Block why) unfailed a cause = absurd cause
 only_memory before after (Replay hest script) refusals.Usage unfailed a cause = absurd cause
 only_memory before after (Replay hest script) refusals.OutOfMemory unfailed a cause = refl
 only_memory before after (Replay hest script) (refusals.Hest error) unfailed (ghes, (found, tells, is), lines, spelled) cause =
@@ -125,6 +147,7 @@ cause_of_task : (words : List (List ℕ)) (before after : FilesSeen) (task : Tas
 cause_of_task words before after task refusals.Usage asked cause = absurd (cause task asked)
 cause_of_task words before after (Replay hest script) refusals.OutOfMemory asked cause = tt
 cause_of_task words before after (Check hest) refusals.OutOfMemory asked cause = tt
+cause_of_task words before after (Decode block) refusals.OutOfMemory asked cause = tt
 cause_of_task words before after task (refusals.Load file why) asked (task', asked', cause) =
     let P : Task → Type 0 = λ t. TaskCause before after t (refusals.Load file why) in
     subst P (same_task words task' task asked' asked) cause
@@ -184,11 +207,12 @@ bad_words words before after sink_before sink_after status ledger (inr (refusal,
     unless_fault (refused_word words refusal) sink_before sink_after refusal 2 status ledger (words_refused words before after refusal none cause) put
 
 -- a task is not done on a refused table
-not_done : (before : FilesSeen) (task : Task) (kept : Option Kept) (text : List ℕ) → RefusesHest before (table_of task) → IsDone before task kept text → ⊥
+not_done : (before : FilesSeen) (task : Task) (kept : Option Kept) (text : List ℕ) → RefusesTable before task → IsDone before task kept text → ⊥
 not_done before (Replay hest script) (Some ledger) text refuses done = hest_not_refused before hest done.table.0 done.table.1 refuses
 not_done before (Replay hest script) None text refuses done = done
 not_done before (Check hest) (Some ledger) text refuses done = done
 not_done before (Check hest) None text refuses done = hest_not_refused before hest done.0 done.1 refuses
+not_done before (Decode block) kept text refuses done = refuses
 
 -- a refused table is refused with status 3, or memory ran out
 check_refused : (before after : FilesSeen) (hest : List ℕ) (refusal : Refusal) → (Rose before.faults after.faults → ⊥) → RefusesHest before hest → HestCause before after hest refusal → (status_of refusal ≡ 3) ⊎ (status_of refusal ≡ 7)
@@ -201,9 +225,12 @@ check_refused before after hest (refusals.Load files.Hest loads.Failed) unfailed
 check_refused before after hest (refusals.Load files.Hest loads.TooLong) unfailed (told, t, error, k) longer = absurd (not_longer before hest 1048576 told t longer)
 check_refused before after hest (refusals.Load files.Hest loads.OutOfMemory) unfailed refuses cause = absurd cause
 check_refused before after hest (refusals.Load files.Script why) unfailed refuses cause = absurd cause
+check_refused before after hest (refusals.Load files.Block why) unfailed refuses cause = absurd cause
 
-table_refused : (before after : FilesSeen) (task : Task) (refusal : Refusal) → (Rose before.faults after.faults → ⊥) → RefusesHest before (table_of task) → TaskCause before after task refusal → (status_of refusal ≡ 3) ⊎ (status_of refusal ≡ 7)
+table_refused : (before after : FilesSeen) (task : Task) (refusal : Refusal) → (Rose before.faults after.faults → ⊥) → RefusesTable before task → TaskCause before after task refusal → (status_of refusal ≡ 3) ⊎ (status_of refusal ≡ 7)
 table_refused before after (Check hest) refusal unfailed refuses cause = check_refused before after hest refusal unfailed refuses cause
+table_refused before after (Decode block) refusal unfailed refuses cause = absurd refuses
+table_refused before after (Replay hest script) (refusals.Load files.Block why) unfailed refuses cause = absurd cause
 table_refused before after (Replay hest script) refusals.Usage unfailed refuses cause = absurd cause
 table_refused before after (Replay hest script) refusals.OutOfMemory unfailed refuses cause = inr refl
 table_refused before after (Replay hest script) refusals.NotBuilt unfailed refuses cause = inl refl
@@ -227,6 +254,7 @@ unserved_not_done before hest script None text unserved done = done
 -- a table that is not served is refused with status 3, or memory ran out
 unserved_refused : (before after : FilesSeen) (hest script : List ℕ) (refusal : Refusal) → (Rose before.faults after.faults → ⊥) → IsNotServed before hest → TaskCause before after (Replay hest script) refusal → (status_of refusal ≡ 3) ⊎ (status_of refusal ≡ 7)
 unserved_refused before after hest script refusals.Usage unfailed unserved cause = absurd cause
+unserved_refused before after hest script (refusals.Load files.Block why) unfailed unserved cause = absurd cause
 unserved_refused before after hest script refusals.OutOfMemory unfailed unserved cause = inr refl
 unserved_refused before after hest script refusals.NotBuilt unfailed unserved cause = inl refl
 unserved_refused before after hest script (refusals.Hest error) unfailed unserved cause = inl refl
@@ -254,6 +282,7 @@ script_not_done words before after None text b done = done
 -- a refused script is refused with status 4, or memory ran out
 script_refused : (words : List (List ℕ)) (before after : FilesSeen) (refusal : Refusal) (b : HasBadScript words before after) → TaskCause before after (Replay b.hest b.script) refusal → (status_of refusal ≡ 4) ⊎ (status_of refusal ≡ 7)
 script_refused words before after refusals.Usage b cause = absurd cause
+script_refused words before after (refusals.Load files.Block why) b cause = absurd cause
 script_refused words before after refusals.OutOfMemory b cause = inr refl
 script_refused words before after (refusals.Script line) b cause = inl refl
 script_refused words before after refusals.NotBuilt b (found, has, none) = absurd (not_served before b.hest found b.ghes has none b.table)
@@ -297,11 +326,12 @@ pub is_listed : (words : List (List ℕ)) (before after : FilesSeen) (sink_befor
 is_listed words before after sink_before sink_after status ends zero =
     (is_done words before after sink_before sink_after status None ends (omega (arith, zero))).1
 
--- a listing has no ledger
+-- a task that is no replay has no ledger
 list_has_none : (words : List (List ℕ)) (before after : FilesSeen) (sink_before sink_after : SinkSeen) (status : ℕ) (ledger : Option Kept) → ((hest script : List ℕ) → IsTask words (Replay hest script) → ⊥) → EndsBy words before after sink_before sink_after status ledger → ledger ≡ None
 list_has_none words before after sink_before sink_after status ledger listing (inl (None, text, done, (same, put))) = same
 list_has_none words before after sink_before sink_after status ledger listing (inl (Some kept, text, (Replay hest script, asked, done), put)) = absurd (listing hest script asked)
 list_has_none words before after sink_before sink_after status ledger listing (inl (Some kept, text, (Check hest, asked, done), put)) = absurd done
+list_has_none words before after sink_before sink_after status ledger listing (inl (Some kept, text, (Decode block, asked, done), put)) = absurd done
 list_has_none words before after sink_before sink_after status ledger listing (inr (refusal, cause, (same, put))) = same
 
 pub list_ends : (words : List (List ℕ)) (before after : FilesSeen) (sink_before sink_after : SinkSeen) (status : ℕ) (ledger : Option Kept) → ((hest script : List ℕ) → IsTask words (Replay hest script) → ⊥) → EndsBy words before after sink_before sink_after status ledger → EndsBy words before after sink_before sink_after status None
@@ -312,3 +342,41 @@ list_ends words before after sink_before sink_after status ledger listing ends =
 -- three words are no replay
 pub no_replay : (hest einj hest' script : List ℕ) → IsTask (codes "check" ∷ hest ∷ einj ∷ []) (Replay hest' script) → ⊥
 no_replay hest einj hest' script asked = cc
+
+-- the text of a block is refused as a file that is not loaded, or for want of memory
+decode_refused : (before after : FilesSeen) (block : List ℕ) (refusal : Refusal) → DecodeCause before after block refusal → (status_of refusal ≡ 5) ⊎ (status_of refusal ≡ 7)
+decode_refused before after block refusals.Usage cause = absurd cause
+decode_refused before after block refusals.OutOfMemory cause = inr refl
+decode_refused before after block refusals.NotBuilt cause = absurd cause
+decode_refused before after block (refusals.Script line) cause = absurd cause
+decode_refused before after block (refusals.Hest error) cause = absurd cause
+decode_refused before after block (refusals.Load file why) cause = inl refl
+
+is_decode_status_at : (expected status : ℕ) → IsTrue (is_decode_status expected) → status ≡ expected → IsTrue (is_decode_status status)
+is_decode_status_at expected status is same =
+    let P : ℕ → Type 0 = λ s. IsTrue (is_decode_status s) in
+    subst P (sym same) is
+
+-- two words are no replay
+pub decode_no_replay : (block hest' script : List ℕ) → IsTask (codes "decode" ∷ block ∷ []) (Replay hest' script) → ⊥
+decode_no_replay block hest' script asked = cc
+
+-- the statuses of a block's text
+pub decode_statuses : (block : List ℕ) (before after : FilesSeen) (sink_before sink_after : SinkSeen) (status : ℕ) (ledger : Option Kept) → EndsBy (codes "decode" ∷ block ∷ []) before after sink_before sink_after status ledger → IsTrue (is_decode_status status)
+decode_statuses block before after sink_before sink_after status ledger (inl (Some kept, text, (Replay hest script, asked, done), put)) = absurd (decode_no_replay block hest script asked)
+decode_statuses block before after sink_before sink_after status ledger (inl (Some kept, text, (Check hest, asked, done), put)) = absurd done
+decode_statuses block before after sink_before sink_after status ledger (inl (Some kept, text, (Decode other, asked, done), put)) = absurd done
+decode_statuses block before after sink_before sink_after status ledger (inl (None, text, done, put)) =
+    elim (status_put sink_before sink_after text 0 status None ledger put) [
+      | inl whole ↦ is_decode_status_at 0 status refl whole
+      | inr cut ↦ is_decode_status_at 6 status refl cut
+    ]
+decode_statuses block before after sink_before sink_after status ledger (inr (refusal, cause, put)) =
+    let words : List (List ℕ) = codes "decode" ∷ block ∷ [] in
+    elim (status_put sink_before sink_after (line_of (refused_word words refusal) refusal) (status_of refusal) status None ledger put) [
+      | inl whole ↦ elim (decode_refused before after block refusal (cause_of_task words before after (Decode block) refusal refl cause)) [
+        | inl file ↦ is_decode_status_at 5 status refl (whole ∙ file)
+        | inr memory ↦ is_decode_status_at 7 status refl (whole ∙ memory)
+      ]
+      | inr cut ↦ is_decode_status_at 6 status refl cut
+    ]

@@ -7,7 +7,8 @@ use Rattle.ghes_outside.specs.declared.files.LoadError.{LoadError}
 use Rattle.ghes_outside.specs.declared.files.LoadError.TheVariants as loads
 use Rattle.apei_hest.specs.declared.source.Ghes.{Ghes}
 use Rattle.ghes_replay.specs.declared.exit.InputFile.TheVariants as files
-use Rattle.ghes_replay.specs.Seen.{FilesSeen, Loads, table_limit, script_limit}
+use Rattle.ghes_replay.specs.Decode.{LoadsBlock}
+use Rattle.ghes_replay.specs.Seen.{FilesSeen, Loads, table_limit, script_limit, block_limit}
 use Rattle.ghes_replay.specs.Loading.{LoadsHest, LoadsScript, load_refusal}
 
 -- no new name
@@ -45,6 +46,11 @@ pub script_not_loaded : (before after : FilesSeen) (name : List ℕ) (ghes : Ghe
 script_not_loaded before after name ghes loads.Failed f = record { loads = loads_by _ _ _ _ loads.Failed f; found = tt; few = tt; refused = (f.failed refl, f.names) }
 script_not_loaded before after name ghes loads.TooLong f = record { loads = loads_by _ _ _ _ loads.TooLong f; found = tt; few = tt; refused = f.too_long refl }
 script_not_loaded before after name ghes loads.OutOfMemory f = record { loads = loads_by _ _ _ _ loads.OutOfMemory f; found = tt; few = tt; refused = tt }
+
+pub block_not_loaded : (before after : FilesSeen) (name : List ℕ) (why : LoadError) → FailedLoad before after name block_limit why → LoadsBlock before after name (Err (load_refusal files.Block why))
+block_not_loaded before after name loads.Failed f = record { loads = loads_by _ _ _ _ loads.Failed f; found = tt; refused = (f.failed refl, f.names) }
+block_not_loaded before after name loads.TooLong f = record { loads = loads_by _ _ _ _ loads.TooLong f; found = tt; refused = f.too_long refl }
+block_not_loaded before after name loads.OutOfMemory f = record { loads = loads_by _ _ _ _ loads.OutOfMemory f; found = tt; refused = tt }
 
 -- all names of one list and then of another
 each_of_both : (P : List ℕ → Type 0) (xs ys : List (List ℕ)) → AllByRecursion P xs → AllByRecursion P ys → AllByRecursion P (xs ++ ys)

@@ -46,6 +46,7 @@ cause_earlier before middle after name ghes (refusals.Load files.Script loads.To
     subst P same cause
 cause_earlier before middle after name ghes (refusals.Load files.Script loads.OutOfMemory) same grows unfailed cause = cause
 cause_earlier before middle after name ghes (refusals.Load files.Hest why) same grows unfailed cause = cause
+cause_earlier before middle after name ghes (refusals.Load files.Block why) same grows unfailed cause = cause
 cause_earlier before middle after name ghes (refusals.Hest error) same grows unfailed cause = cause
 cause_earlier before middle after name ghes refusals.NotBuilt same grows unfailed cause = cause
 cause_earlier before middle after name ghes (refusals.Script line) same grows unfailed cause =
@@ -63,6 +64,7 @@ loads_of_both before middle after hest script first second =
 cause_of_script : (before after : FilesSeen) (hest script : List ℕ) (ghes : Ghes) (refusal : Refusal) → HasTable before hest ghes → ScriptCause before after script ghes refusal → ReplayCause before after hest script refusal
 cause_of_script before after hest script ghes (refusals.Load files.Script why) table cause = (ghes, table, cause)
 cause_of_script before after hest script ghes (refusals.Load files.Hest why) table cause = absurd cause
+cause_of_script before after hest script ghes (refusals.Load files.Block why) table cause = absurd cause
 cause_of_script before after hest script ghes (refusals.Hest error) table cause = absurd cause
 cause_of_script before after hest script ghes refusals.NotBuilt table cause = absurd cause
 cause_of_script before after hest script ghes (refusals.Script line) table cause = (ghes, table, cause)
@@ -109,6 +111,7 @@ replay_goes before middle after hest script ghes lines (Err (refusals.Script lin
 source_cause : (before after : FilesSeen) (hest script : List ℕ) (refusal : Refusal) → HestCause before after hest refusal → ReplayCause before after hest script refusal
 source_cause before after hest script (refusals.Load files.Hest why) cause = cause
 source_cause before after hest script (refusals.Load files.Script why) cause = absurd cause
+source_cause before after hest script (refusals.Load files.Block why) cause = absurd cause
 source_cause before after hest script (refusals.Hest error) cause = cause
 source_cause before after hest script refusals.NotBuilt cause = absurd cause
 source_cause before after hest script (refusals.Script line) cause = absurd cause

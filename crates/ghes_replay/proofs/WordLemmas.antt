@@ -1,4 +1,4 @@
--- A command line of four words.
+-- Command lines of four, three and two words.
 use Rattle.std.proofs.Common.{◌≡◌, ◌<◌, ◌≤◌, ℕ, List, [], ◌∷◌, map, length, get_or, ap, ◌∙◌, arith, String, Global}
 use Rattle.std.specs.String.{string_bytes}
 
@@ -26,3 +26,14 @@ three_items (w ∷ x ∷ y ∷ z ∷ more) a b c low high is_a is_b is_c = absur
 -- the bytes of three words
 pub three_words : (words : List (String Global)) (a b c : String Global) (w x y : List ℕ) → words ≡ a ∷ b ∷ c ∷ [] → string_bytes a ≡ w → string_bytes b ≡ x → string_bytes c ≡ y → map (string_bytes {Z = Global}) words ≡ w ∷ x ∷ y ∷ []
 three_words words a b c w x y all is_a is_b is_c = ap (map (string_bytes {Z = Global})) all ∙ cc
+
+-- two elements by their places
+pub two_items : {A : Type 0} (items : List A) (a b : A) → 2 ≤ length items → length items < 3 → a ≡ get_or items 0 a → b ≡ get_or items 1 b → items ≡ a ∷ b ∷ []
+two_items [] a b low high is_a is_b = absurd (omega arith)
+two_items (w ∷ []) a b low high is_a is_b = absurd (omega arith)
+two_items (w ∷ x ∷ []) a b low high is_a is_b = cc
+two_items (w ∷ x ∷ y ∷ more) a b low high is_a is_b = absurd (omega arith)
+
+-- the bytes of two words
+pub two_words : (words : List (String Global)) (a b : String Global) (w x : List ℕ) → words ≡ a ∷ b ∷ [] → string_bytes a ≡ w → string_bytes b ≡ x → map (string_bytes {Z = Global}) words ≡ w ∷ x ∷ []
+two_words words a b w x all is_a is_b = ap (map (string_bytes {Z = Global})) all ∙ cc

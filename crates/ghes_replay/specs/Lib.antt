@@ -1,6 +1,7 @@
 pub mod Blocks
 pub mod Call
 pub mod Check
+pub mod Decode
 pub mod Execute
 pub mod Fates
 pub mod History

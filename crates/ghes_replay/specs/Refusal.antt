@@ -20,10 +20,11 @@ status_of (refusals.Script line) = 4
 status_of (refusals.Load file why) = 5
 status_of refusals.OutOfMemory = 7
 
--- the word that names a file: the table is word 1 and the script word 3, counted from 0
+-- the word that names a file: the table or the block is word 1 and the script word 3, counted from 0
 abbrev pub file_name : List (List ℕ) → InputFile → List ℕ
 file_name words files.Hest = unwrap_or (slice_get words 1) []
 file_name words files.Script = unwrap_or (slice_get words 3) []
+file_name words files.Block = unwrap_or (slice_get words 1) []
 
 -- why a file was not loaded
 abbrev pub load_error_text : LoadError → List ℕ

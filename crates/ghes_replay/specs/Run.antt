@@ -9,6 +9,7 @@ use Rattle.ghes_replay.specs.declared.exit.InputFile.TheVariants as files
 use Rattle.ghes_replay.specs.declared.exit.Refusal.{Refusal}
 use Rattle.ghes_replay.specs.declared.exit.Refusal.TheVariants as refusals
 use Rattle.ghes_replay.specs.Check.{check_text}
+use Rattle.ghes_replay.specs.Decode.{IsDecoded, DecodeCause}
 use Rattle.ghes_replay.specs.History.{Step}
 use Rattle.ghes_replay.specs.Image.{limit_of}
 use Rattle.ghes_replay.specs.Kept.{Kept}
@@ -17,7 +18,7 @@ use Rattle.ghes_replay.specs.Refusal.{status_of, line_of, memory_line, refused_w
 use Rattle.ghes_replay.specs.Text.{replay_text}
 use Rattle.ghes_replay.specs.Seen.{FilesSeen, SinkSeen, Loads}
 use Rattle.ghes_replay.specs.Served.{served}
-use Rattle.ghes_replay.specs.Task.{Task, Replay, Check, IsTask, IsFileOf, IsFileWord}
+use Rattle.ghes_replay.specs.Task.{Task, Replay, Check, Decode, IsTask, IsFileOf, IsFileWord}
 use Rattle.ghes_replay.specs.Loading.{HasHest, HasTable, HasScript, HestCause, ScriptCause}
 
 -- The two files were replayed: the ledger is lawful for the lines of the script, and the text is the text of that ledger.
@@ -40,6 +41,8 @@ IsDone before (Replay hest script) (Some ledger) text = IsReplayed before hest s
 IsDone before (Replay hest script) None text = ⊥
 IsDone before (Check hest) (Some ledger) text = ⊥
 IsDone before (Check hest) None text = IsChecked before hest text
+IsDone before (Decode block) (Some ledger) text = ⊥
+IsDone before (Decode block) None text = IsDecoded before block text
 
 -- why a replay of two files is refused: the table is judged first, then whether its sources are served so far, and the
 -- script only where one is
@@ -49,6 +52,7 @@ ReplayCause before after hest script (refusals.Hest error) = HestCause before af
 ReplayCause before after hest script refusals.NotBuilt = (found : List Source) × HasHest before hest found × (served found ≡ None)
 ReplayCause before after hest script (refusals.Load files.Script why) = (ghes : Ghes) × HasTable before hest ghes × ScriptCause before after script ghes (refusals.Load files.Script why)
 ReplayCause before after hest script (refusals.Script line) = (ghes : Ghes) × HasTable before hest ghes × ScriptCause before after script ghes (refusals.Script line)
+ReplayCause before after hest script (refusals.Load files.Block why) = ⊥
 ReplayCause before after hest script refusals.Usage = ⊥
 ReplayCause before after hest script refusals.OutOfMemory = Unit {0}
 
@@ -63,6 +67,7 @@ pub record LoadsSource (before after : FilesSeen) (hest : List ℕ) (result : Re
 abbrev pub TaskCause : FilesSeen → FilesSeen → Task → Refusal → Type 0
 TaskCause before after (Replay hest script) refusal = ReplayCause before after hest script refusal
 TaskCause before after (Check hest) refusal = HestCause before after hest refusal
+TaskCause before after (Decode block) refusal = DecodeCause before after block refusal
 
 -- what a replay of lines answers, by its ledger and its text
 abbrev pub RunsLines : Ghes → List Line → Result (Option Kept × List ℕ) Refusal → Type 0
@@ -136,6 +141,10 @@ is_status status = (status == 0) || (status == 1) || (status == 2) || (status ==
 -- the statuses of a listing
 abbrev pub is_check_status : ℕ → Bool
 is_check_status status = (status == 0) || (status == 2) || (status == 3) || (status == 5) || (status == 6) || (status == 7)
+
+-- the statuses of a block's text
+abbrev pub is_decode_status : ℕ → Bool
+is_decode_status status = (status == 0) || (status == 5) || (status == 6) || (status == 7)
 
 -- The task was done: the ledger is that of a replay, and the bytes put are its text.
 abbrev pub PutsText : List (List ℕ) → FilesSeen → SinkSeen → SinkSeen → Option Kept → Type 0

@@ -21,12 +21,15 @@ pub record SinkSeen : Type 0 where
 abbrev pub sink_seen : Option (List ℕ) → ℕ → SinkSeen
 sink_seen written faults = record { written = written; faults = faults }
 
--- a table has at most 1 MiB, and a script at most 16 MiB
+-- a table has at most 1 MiB, a script at most 16 MiB, and the file of a block at most 65,536 bytes
 abbrev pub table_limit : ℕ
 table_limit = 1048576
 
 abbrev pub script_limit : ℕ
 script_limit = 16777216
+
+abbrev pub block_limit : ℕ
+block_limit = 65536
 
 -- new failed names, behind the old ones
 abbrev pub AddsNames : FilesSeen → FilesSeen → List (List ℕ) → Type 0

@@ -3,25 +3,23 @@ use Rattle.std.specs.Prelude.{◌≡◌, ◌⊎◌, ℕ, List, [], ◌∷◌, co
 use Rattle.ghes_replay.specs.declared.task.Task.{Task as Words}
 use Rattle.ghes_replay.specs.declared.task.Task.TheVariants as words
 
--- a replay of a script on a table, or the listing of a table, by the names of their files
+-- a replay of a script on a table, the listing of a table, or the text of a block, by the names of their files
 pub data Task : Type 0 where
   Replay : List ℕ → List ℕ → Task
   Check : List ℕ → Task
+  Decode : List ℕ → Task
 
 -- the words ask for this; `-` stands for no injection table
 abbrev pub IsTask : List (List ℕ) → Task → Type 0
 IsTask words (Replay hest script) = words ≡ codes "replay" ∷ hest ∷ codes "-" ∷ script ∷ []
 IsTask words (Check hest) = words ≡ codes "check" ∷ hest ∷ codes "-" ∷ []
-
--- the name of its table
-abbrev pub table_of : Task → List ℕ
-table_of (Replay hest script) = hest
-table_of (Check hest) = hest
+IsTask words (Decode block) = words ≡ codes "decode" ∷ block ∷ []
 
 -- the name of a file that is read for it
 abbrev pub IsFileOf : Task → List ℕ → Type 0
 IsFileOf (Replay hest script) name = (name ≡ hest) ⊎ (name ≡ script)
 IsFileOf (Check hest) name = name ≡ hest
+IsFileOf (Decode block) name = name ≡ block
 
 -- a word of the command line that stands for a file
 abbrev pub IsFileWord : List (List ℕ) → List ℕ → Type 0
@@ -31,3 +29,4 @@ IsFileWord words name = (task : Task) × IsTask words task × IsFileOf task name
 abbrev pub task_seen : Words → Task
 task_seen (words.Replay hest script) = Replay hest.now script.now
 task_seen (words.Check hest) = Check hest.now
+task_seen (words.Decode block) = Decode block.now

@@ -8,9 +8,9 @@ use Rattle.ghes_outside.specs.Outside.{Rose}
 use Rattle.ghes_script.specs.declared.error.BadLine.{BadLine}
 use Rattle.ghes_script.specs.declared.line.Line.{Line}
 use Rattle.ghes_script.specs.Script.{IsScript, IsRefusedAt}
-use Rattle.ghes_replay.specs.Seen.{FilesSeen, SinkSeen, table_limit, script_limit}
+use Rattle.ghes_replay.specs.Seen.{FilesSeen, SinkSeen, table_limit, script_limit, block_limit}
 use Rattle.ghes_replay.specs.Served.{served}
-use Rattle.ghes_replay.specs.Task.{Task, Replay, Check, IsTask, table_of}
+use Rattle.ghes_replay.specs.Task.{Task, Replay, Check, Decode, IsTask}
 
 -- A file is told, and within its limit.
 pub record IsTold (seen : FilesSeen) (name : List ℕ) (limit : ℕ) (bytes : List ℕ) : Type 0 where
@@ -29,14 +29,21 @@ TellsTable seen name ghes = (found : List Source) × TellsHest seen name found �
 abbrev pub TellsScript : FilesSeen → List ℕ → Ghes → List Line → Type 0
 TellsScript seen name ghes lines = (bytes : List ℕ) × IsTold seen name script_limit bytes × IsScript ghes.id bytes lines
 
--- all files of a task are told and accepted
+-- all files of a task are told and accepted; the file of a block is so within its limit
 abbrev pub Accepts : FilesSeen → Task → Type 0
 Accepts seen (Replay hest script) = (ghes : Ghes) × TellsTable seen hest ghes × (lines : List Line) × TellsScript seen script ghes lines
 Accepts seen (Check hest) = (found : List Source) × TellsHest seen hest found
+Accepts seen (Decode block) = (bytes : List ℕ) × IsTold seen block block_limit bytes
 
 -- a told table is refused
 abbrev pub RefusesHest : FilesSeen → List ℕ → Type 0
 RefusesHest seen name = (bytes : List ℕ) × IsTold seen name table_limit bytes × (error : HestError) × Judges bytes (Err error)
+
+-- the table of a task is told and refused; the text of a block has no table
+abbrev pub RefusesTable : FilesSeen → Task → Type 0
+RefusesTable seen (Replay hest script) = RefusesHest seen hest
+RefusesTable seen (Check hest) = RefusesHest seen hest
+RefusesTable seen (Decode block) = ⊥
 
 -- a told table is accepted, and a replay serves none of its sources so far
 abbrev pub IsNotServed : FilesSeen → List ℕ → Type 0
@@ -46,7 +53,7 @@ IsNotServed seen name = (found : List Source) × TellsHest seen name found × (s
 pub record HasBadTable (words : List (List ℕ)) (before after : FilesSeen) : Type 0 where
   pub task : Task
   pub asked : IsTask words task
-  pub table : RefusesHest before (table_of task)
+  pub table : RefusesTable before task
   pub no_failed_load : Rose before.faults after.faults → ⊥
 
 -- The words ask for a replay on a table that is told and accepted, but not served so far, and no load failed.

@@ -11,6 +11,11 @@ abbrev pub lines_of : Result (Vec Line Global) Refusal → Result (List Line) Re
 lines_of (Ok lines) = Ok lines.items
 lines_of (Err refusal) = Err refusal
 
+-- the bytes of a vector, or the refusal
+abbrev pub bytes_of : Result (Vec ℕ Global) Refusal → Result (List ℕ) Refusal
+bytes_of (Ok bytes) = Ok bytes.items
+bytes_of (Err refusal) = Err refusal
+
 -- the ledger, where there is one, and the text of what was done, or the refusal
 abbrev pub done_of : Result Done Refusal → Result (Option Kept × List ℕ) Refusal
 done_of (Ok done) = Ok (done.ledger, done.text.items)

@@ -2,13 +2,14 @@
 ghost use Rattle.std.specs.Prelude.{◌≡◌, ◌<◌, ◌^◌, length};
 ghost use Rattle.std.specs.List.{AllByRecursion};
 ghost use Rattle.ghes_replay.specs.Seen.{files_seen};
-ghost use Rattle.ghes_replay.specs.Task.{Replay, Check};
+ghost use Rattle.ghes_replay.specs.Task.{Replay, Check, Decode};
 ghost use Rattle.ghes_replay.specs.Run.{RunsLines, LoadsSource, Does};
 ghost use Rattle.ghes_script.specs.Script.{IsOfFirst};
 ghost use Rattle.ghes_replay.specs.Views.{done_of};
 
 use crate::check::check_text;
-use crate::loading::{load_hest, load_script};
+use crate::decode::decode_text;
+use crate::loading::{load_block, load_hest, load_script};
 use crate::script_run::{Replayed, run_script};
 use crate::served::served;
 use crate::{Ledger, Refusal};
@@ -87,6 +88,20 @@ pub(crate) fn check<F: Files>(alloc: Global, files: &mut F, hest: &str) -> Resul
 {
     let found = load_hest(alloc, files, hest)?;
     match check_text(alloc, found.sources()) {
+        Ok(text) => Ok(Done { ledger: None, text }),
+        Err(_) => Err(Refusal::OutOfMemory),
+    }
+}
+
+/// Decodes the block of a file.
+pub(crate) fn decode<F: Files>(alloc: Global, files: &mut F, block: &str) -> Result<Done, Refusal>
+    ensures { Does
+        (files_seen (F.contents files.old) (F.failed files.old) (F.faults files.old))
+        (files_seen (F.contents files.new) (F.failed files.new) (F.faults files.new))
+        (Decode block.now) (done_of result) }
+{
+    let bytes = load_block(alloc, files, block)?;
+    match decode_text(alloc, &bytes) {
         Ok(text) => Ok(Done { ledger: None, text }),
         Err(_) => Err(Refusal::OutOfMemory),
     }

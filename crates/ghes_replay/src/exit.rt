@@ -8,11 +8,12 @@ use ghes_outside::LoadError;
 use ghes_script::BadLine;
 use std::alloc::{AllocError, Global};
 
-/// The files that a replay reads.
+/// The files that a run reads.
 #[derive(Clone, Copy, Debug, PartialEq, Eq)]
 pub enum InputFile {
     Hest,
     Script,
+    Block,
 }
 
 /// Why a run is refused.
@@ -50,7 +51,7 @@ fn file_name(words: &[String], file: InputFile) -> &str
     ensures { result.now ≡ file_name (map string_bytes words.now) file }
 {
     let word = match file {
-        InputFile::Hest => words.get(1),
+        InputFile::Hest | InputFile::Block => words.get(1),
         InputFile::Script => words.get(3),
     };
     match word {

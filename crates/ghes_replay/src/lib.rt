@@ -4,6 +4,7 @@
 mod blocks;
 mod call;
 mod check;
+mod decode;
 mod doing;
 mod execute;
 mod exit;
@@ -27,4 +28,4 @@ pub use ledger::{
     AckState, Call, Ledger, Mark, Outcome, PanicEntry, Reply, Report, Reported, Taken,
 };
 pub use pending::Packet;
-pub use run::{RunEnd, check_run, ghes_run};
+pub use run::{RunEnd, check_run, decode_run, ghes_run};

@@ -1,7 +1,8 @@
 ghost use Rattle.std.specs.Prelude.{◌≡◌, ◌<◌, ◌^◌, ◌-◌, length};
 ghost use Rattle.ghes_replay.specs.Seen.{files_seen};
 ghost use Rattle.ghes_replay.specs.Loading.{LoadsHest, LoadsScript, ReadsHest, ReadsLines, load_refusal};
-ghost use Rattle.ghes_replay.specs.Views.{lines_of};
+ghost use Rattle.ghes_replay.specs.Decode.{LoadsBlock};
+ghost use Rattle.ghes_replay.specs.Views.{lines_of, bytes_of};
 
 use crate::{InputFile, Refusal};
 use apei_hest::{Ghes, Hest, HestError};
@@ -13,6 +14,8 @@ use std::alloc::Global;
 const TABLE_LIMIT: usize = 1048576;
 /// How many bytes a script may have.
 const SCRIPT_LIMIT: usize = 16777216;
+/// How many bytes the file of a block may have.
+const BLOCK_LIMIT: usize = 65536;
 
 // The table that the bytes are.
 fn read_hest(alloc: Global, bytes: &[u8]) -> Result<Hest, Refusal>
@@ -77,5 +80,23 @@ pub(crate) fn load_script<F: Files>(
     match files.load(name, &mut bytes, SCRIPT_LIMIT) {
         Ok(()) => read_lines(alloc, ghes.id, &bytes),
         Err(why) => Err(load_refusal(InputFile::Script, why)),
+    }
+}
+
+/// Loads the file of a block.
+pub(crate) fn load_block<F: Files>(
+    alloc: Global,
+    files: &mut F,
+    name: &str,
+) -> Result<Vec<u8>, Refusal>
+    ensures { LoadsBlock
+        (files_seen (F.contents files.old) (F.failed files.old) (F.faults files.old))
+        (files_seen (F.contents files.new) (F.failed files.new) (F.faults files.new))
+        name.now (bytes_of result) }
+{
+    let mut bytes = Vec::new(alloc);
+    match files.load(name, &mut bytes, BLOCK_LIMIT) {
+        Ok(()) => Ok(bytes),
+        Err(why) => Err(load_refusal(InputFile::Block, why)),
     }
 }

@@ -3,12 +3,12 @@ ghost use Rattle.std.specs.List.{list_any};
 ghost use Rattle.std.specs.String.{string_bytes};
 ghost use Rattle.ghes_replay.specs.Seen.{files_seen, sink_seen, Loads};
 ghost use Rattle.ghes_replay.specs.Task.{Task as Asked, IsTask, IsFileWord};
-ghost use Rattle.ghes_replay.specs.Run.{Answers, RefusedBy, EndsBy, PutsText, is_status, is_check_status, done_status, IsUnlessFault};
+ghost use Rattle.ghes_replay.specs.Run.{Answers, RefusedBy, EndsBy, PutsText, is_status, is_check_status, is_decode_status, done_status, IsUnlessFault};
 ghost use Rattle.ghes_replay.specs.Told.{IsAccepted, HasBadTable, HasUnserved, HasBadScript};
 ghost use Rattle.ghes_outside.specs.Outside.{Rose};
 ghost use Rattle.ghes_replay.specs.Views.{done_of};
 
-use crate::doing::{Done, check, replay};
+use crate::doing::{Done, check, decode, replay};
 use crate::exit::{MEMORY_LINE, Refusal};
 use crate::putting::end_with;
 use crate::task::{Task, task_of};
@@ -35,6 +35,7 @@ fn answer<F: Files>(alloc: Global, words: &[String], files: &mut F) -> Result<Do
     match task_of(words) {
         Some(Task::Replay { hest, script }) => replay(alloc, files, hest, script),
         Some(Task::Check { hest }) => check(alloc, files, hest),
+        Some(Task::Decode { block }) => decode(alloc, files, block),
         None => Err(Refusal::Usage),
     }
 }
@@ -86,17 +87,18 @@ fn run<F: Files, K: Sink>(alloc: Global, words: &[String], files: &mut F, out: &
 
 /// Runs the program: does what the words after the program's name ask for, with these files and this output.
 ///
-/// So far the words are `replay HEST - SCRIPT` or `check HEST -`, where HEST and SCRIPT name files of at most 1 MiB
-/// and 16 MiB, and `-` stands for no injection table. The order of the work is: the words, the table, the script; the
-/// first refusal ends the run. All text is made first, and then put in pieces of at most 4,096 bytes.
+/// So far the words are `replay HEST - SCRIPT`, `check HEST -` or `decode BLOCK`, where HEST, SCRIPT and BLOCK name
+/// files of at most 1 MiB, 16 MiB and 65,536 bytes, and `-` stands for no injection table. The order of the work is:
+/// the words, the table, the script; the first refusal ends the run. All text is made first, and then put in pieces of
+/// at most 4,096 bytes.
 pub fn ghes_run<F: Files, K: Sink>(
     alloc: Global,
     words: &[String],
     files: &mut F,
     out: &mut K,
 ) -> RunEnd
-    // How it ends: with the text of what was done, which is that of a lawful ledger or of an accepted table, or with the
-    // line of a refusal that has its cause.
+    // How it ends: with the text of what was done, which is that of a lawful ledger, of an accepted table or of a judged
+    // block, or with the line of a refusal that has its cause.
     ensures ends { EndsBy (map string_bytes words.now)
         (files_seen (F.contents files.old) (F.failed files.old) (F.faults files.old))
         (files_seen (F.contents files.new) (F.failed files.new) (F.faults files.new))
@@ -215,4 +217,60 @@ pub fn check_run<F: Files, K: Sink>(
         → (result ≡ 0) ⊎ (result ≡ 7) }
 {
     list(alloc, hest, einj, files, out).status
+}
+
+// What the words `decode BLOCK` ask for.
+fn answer_decode<F: Files>(alloc: Global, block: &str, files: &mut F) -> Result<Done, Refusal>
+    ensures { Answers (codes "decode" ∷ block.now ∷ [])
+        (files_seen (F.contents files.old) (F.failed files.old) (F.faults files.old))
+        (files_seen (F.contents files.new) (F.failed files.new) (F.faults files.new))
+        (done_of result) }
+{
+    decode(alloc, files, block)
+}
+
+// Decodes a block, and puts the text or the line of the refusal.
+fn print_block<F: Files, K: Sink>(alloc: Global, block: &str, files: &mut F, out: &mut K) -> RunEnd
+    ensures ends { EndsBy (codes "decode" ∷ block.now ∷ [])
+        (files_seen (F.contents files.old) (F.failed files.old) (F.faults files.old))
+        (files_seen (F.contents files.new) (F.failed files.new) (F.faults files.new))
+        (sink_seen (K.written out.old) (K.faults out.old)) (sink_seen (K.written out.new) (K.faults out.new))
+        result.status result.ledger }
+    ensures loads { Loads (IsFileWord (codes "decode" ∷ block.now ∷ []))
+        (files_seen (F.contents files.old) (F.failed files.old) (F.faults files.old))
+        (files_seen (F.contents files.new) (F.failed files.new) (F.faults files.new)) }
+{
+    match answer_decode(alloc, block, files) {
+        Ok(Done { ledger, text }) => end_with(out, &text, done_status(&ledger), ledger),
+        Err(refusal) => refuse(alloc, out, block, refusal),
+    }
+}
+
+/// Prints the block at the front of the file `block`, as the program does for the words `decode BLOCK`, and gives the
+/// status.
+///
+/// The file has at most 65,536 bytes, and those behind the block are not read. Bytes that begin with no well-formed
+/// block are no refusal: the reason is printed. It neither waits nor starts threads, and it returns.
+pub fn decode_run<F: Files, K: Sink>(alloc: Global, block: &str, files: &mut F, out: &mut K) -> u8
+    // Each clause is that of `ghes_run` with the words `decode BLOCK`.
+    ensures ends { EndsBy (codes "decode" ∷ block.now ∷ [])
+        (files_seen (F.contents files.old) (F.failed files.old) (F.faults files.old))
+        (files_seen (F.contents files.new) (F.failed files.new) (F.faults files.new))
+        (sink_seen (K.written out.old) (K.faults out.old)) (sink_seen (K.written out.new) (K.faults out.new))
+        result None }
+    ensures done { result ≡ 0 → PutsText (codes "decode" ∷ block.now ∷ [])
+        (files_seen (F.contents files.old) (F.failed files.old) (F.faults files.old))
+        (sink_seen (K.written out.old) (K.faults out.old)) (sink_seen (K.written out.new) (K.faults out.new)) None }
+    ensures statuses { IsTrue (is_decode_status result) }
+    ensures put_failed { result ≡ 6 → Rose (K.faults out.old) (K.faults out.new) }
+    ensures loads { Loads (IsFileWord (codes "decode" ∷ block.now ∷ []))
+        (files_seen (F.contents files.old) (F.failed files.old) (F.faults files.old))
+        (files_seen (F.contents files.new) (F.failed files.new) (F.faults files.new)) }
+    ensures complete { IsAccepted (codes "decode" ∷ block.now ∷ [])
+        (files_seen (F.contents files.old) (F.failed files.old) (F.faults files.old))
+        (files_seen (F.contents files.new) (F.failed files.new) (F.faults files.new))
+        (sink_seen (K.written out.old) (K.faults out.old)) (sink_seen (K.written out.new) (K.faults out.new))
+        → (result ≡ 0) ⊎ (result ≡ 7) }
+{
+    print_block(alloc, block, files, out).status
 }

@@ -1,6 +1,6 @@
 ghost use Rattle.std.specs.Prelude.{◌≡◌, ℕ, List, MatchOption, map};
 ghost use Rattle.std.specs.String.{string_bytes};
-ghost use Rattle.ghes_replay.specs.Task.{Task as Asked, Replay as AskedReplay, Check as AskedCheck, IsTask, task_seen};
+ghost use Rattle.ghes_replay.specs.Task.{Task as Asked, Replay as AskedReplay, Check as AskedCheck, Decode as AskedDecode, IsTask, task_seen};
 
 /// What the words of the command line ask for, with the names of the files.
 #[derive(Clone, Copy)]
@@ -9,6 +9,8 @@ pub(crate) enum Task<'a> {
     Replay { hest: &'a str, script: &'a str },
     /// To list a table.
     Check { hest: &'a str },
+    /// To print a block.
+    Decode { block: &'a str },
 }
 
 // The names of the table and of the script in the words `replay HEST - SCRIPT`.
@@ -41,6 +43,21 @@ fn check_name(words: &[String]) -> Option<&str>
     Some(hest.as_str())
 }
 
+// The name of the block in the words `decode BLOCK`.
+fn decode_name(words: &[String]) -> Option<&str>
+    ensures { MatchOption result
+        ((block : List ℕ) → IsTask (map string_bytes words.now) (AskedDecode block) → ⊥)
+        (λ name. IsTask (map string_bytes words.now) (AskedDecode name.now)) }
+{
+    let [command, block] = words else {
+        return None;
+    };
+    if command.as_str() != "decode" {
+        return None;
+    }
+    Some(block.as_str())
+}
+
 /// What the words ask for, if they are a form of the command line.
 pub(crate) fn task_of(words: &[String]) -> Option<Task<'_>>
     ensures { MatchOption result
@@ -50,8 +67,11 @@ pub(crate) fn task_of(words: &[String]) -> Option<Task<'_>>
     if let Some((hest, script)) = replay_names(words) {
         return Some(Task::Replay { hest, script });
     }
-    match check_name(words) {
-        Some(hest) => Some(Task::Check { hest }),
+    if let Some(hest) = check_name(words) {
+        return Some(Task::Check { hest });
+    }
+    match decode_name(words) {
+        Some(block) => Some(Task::Decode { block }),
         None => None,
     }
 }

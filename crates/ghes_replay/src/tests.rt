@@ -1,5 +1,6 @@
 // Runs over files and an output in memory. The sample tables and blocks stand in docs/FORMATS.md.
 mod checks;
+mod decodes;
 mod outputs;
 mod refusals;
 mod replays;

@@ -1,0 +1,62 @@
+//! The text of a block alone.
+ghost use Rattle.std.specs.Prelude.{◌≡◌, ◌++◌, OnOk, IfOk, None};
+ghost use Rattle.std.specs.String.{string_bytes};
+ghost use Rattle.cper_block.specs.Block.{Judges};
+ghost use Rattle.cper_block.specs.Header.{header_of, block_length};
+ghost use Rattle.ghes_report.specs.Body.{block_text};
+ghost use Rattle.ghes_replay.specs.Decode.{block_line, malformed_line, Decodes};
+
+use cper_block::{Block, Header, Malformed};
+use ghes_report::block_text;
+use std::alloc::{AllocError, Global};
+
+/// How many bytes a block may have.
+const BLOCK_LIMIT: u32 = 65536;
+
+// How long a block is in bytes, by its header.
+fn block_length(header: &Header) -> u64
+    ensures { result ≡ block_length header.now }
+{
+    if header.raw_length == 0 {
+        20 + u64::from(header.length)
+    } else {
+        u64::from(header.raw_offset) + u64::from(header.raw_length)
+    }
+}
+
+// The line of a block of so many bytes.
+fn block_line(alloc: Global, count: u64) -> Result<String, AllocError>
+    ensures { IfOk result (λ line. string_bytes line ≡ block_line count) }
+{
+    format!(in alloc; "block of {count} bytes\n")
+}
+
+// The line of bytes that are no block.
+fn malformed_line(alloc: Global, reason: Malformed) -> Result<String, AllocError>
+    ensures { IfOk result (λ line. string_bytes line ≡ malformed_line reason) }
+{
+    format!(in alloc; "malformed {reason}\n")
+}
+
+// The lines of the block that the bytes begin with: how long it is, and its body.
+fn whole_text(alloc: Global, header: &Header, bytes: &[u8]) -> Result<Vec<u8>, AllocError>
+    requires block { Judges bytes.now 65536 None }
+    requires front { header.now ≡ header_of bytes.now }
+    ensures { IfOk result (λ text. text.items ≡ block_line (block_length (header_of bytes.now)) ++ block_text bytes.now) }
+{
+    let mut text = block_line(alloc, block_length(header))?.into_bytes();
+    block_text(alloc, &mut text, bytes)?;
+    Ok(text)
+}
+
+/// The text of the block that the bytes begin with, or of the reason why they begin with none.
+///
+/// Bytes behind the block are not read.
+pub(crate) fn decode_text(alloc: Global, bytes: &[u8]) -> Result<Vec<u8>, AllocError>
+    ensures { IfOk result (λ text. Decodes bytes.now text.items) }
+{
+    match Block::read(bytes, BLOCK_LIMIT) {
+        Ok(block) => whole_text(alloc, &block.header(), bytes),
+        Err(reason) => Ok(malformed_line(alloc, reason)?.into_bytes()),
+    }
+}
