@@ -1,9 +1,9 @@
 -- The computed reason of a block is its judgement, and does not depend on a limit that it keeps.
 use Rattle.std.proofs.Common.{◌≡◌, ◌≤◌, ℕ, zero, suc, ◌+◌, min, Bool, true, false, cond, ltb, List, [], ◌∷◌, ◌++◌, length, take, drop, refl, sym, ap, ◌∙◌, subst, arith, append_assoc, zero-add, Option, Some, None}
 use Rattle.std.specs.Option.{option_or}
-use Rattle.std.specs.List.{flat_map, AllByRecursion}
-use Rattle.std.proofs.lemmas.Bool.{leb-true, ltb-false, le-ltb, false≢true}
-use Rattle.std.proofs.lemmas.List.{length-drop, take-append-drop}
+use Rattle.std.specs.List.{flat_map}
+use Rattle.std.proofs.lemmas.Bool.{leb-true, ltb-false, le-ltb}
+use Rattle.std.proofs.lemmas.List.{take-append-drop}
 use Rattle.cper_block.specs.Block.{data_of, front_reason, JudgedBy, Judges}
 use Rattle.cper_block.specs.Cut.{IsEntry, Cuts, begins_entry, rest_reason, Walks}
 use Rattle.cper_block.specs.Entry.{entry_length}

@@ -16,8 +16,8 @@ pub use entries::Entries;
 pub use entry::DataEntry;
 pub use header::Header;
 pub use laws::{
-    a_reason_is_the_judgement,
-    a_block_is_its_parts, bytes_are_judged_in_one_way, the_entries_are_those_of_the_cut,
+    a_block_is_its_parts, a_reason_is_the_judgement, bytes_are_judged_in_one_way,
+    the_entries_are_those_of_the_cut,
 };
 pub use malformed::Malformed;
 pub use severity::Severity;

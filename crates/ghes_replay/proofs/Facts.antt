@@ -3,7 +3,6 @@ use Rattle.std.proofs.Common.{◌≡◌, ℕ, suc, zero, ◌+◌, Bool, true, fa
 use Rattle.std.specs.List.{range_with_len, flat_map}
 use Rattle.std.proofs.lemmas.List.{length-append}
 use Rattle.cper_block.specs.declared.malformed.Malformed.{Malformed}
-use Rattle.ghes_replay.specs.declared.ledger.PanicEntry.{PanicEntry}
 use Rattle.ghes_replay.specs.declared.pending.Packet.{Packet}
 use Rattle.ghes_replay.specs.Call.{packet_for}
 use Rattle.ghes_replay.specs.Kept.{taken_by_reason, reports_by_reason, reports_of_packet, panic_entry}

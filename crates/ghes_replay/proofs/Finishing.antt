@@ -1,10 +1,10 @@
 -- A replay that has run its lines and the end of its script has a lawful ledger, and its text is the text of that ledger.
-use Rattle.std.proofs.Common.{◌≡◌, ◌≤◌, ℕ, Bool, true, false, List, [], ◌∷◌, ◌++◌, length, take, drop, refl, sym, ap, subst, ◌∙◌, append_assoc}
+use Rattle.std.proofs.Common.{◌≡◌, ◌≤◌, ℕ, List, [], ◌++◌, length, take, drop, refl, sym, ap, subst, ◌∙◌}
 use Rattle.std.proofs.lemmas.List.{take-append-drop, drop_all}
 use Rattle.ghes_replay.specs.declared.execute.Replay.{Replay}
 use Rattle.ghes_script.specs.declared.line.Line.{Line}
 use Rattle.ghes_replay.specs.Execute.{executed, step_of}
-use Rattle.ghes_replay.specs.History.{Step, acts_of, acts_in, script_end}
+use Rattle.ghes_replay.specs.History.{Step, script_end}
 use Rattle.ghes_replay.specs.Lawful.{fatal_names, AreExecuted, IsLawful}
 use Rattle.ghes_replay.specs.Text.{step_text, panic_text, summary_by, history_text, replay_text}
 use Rattle.ghes_replay.proofs.LawfulEnd.{lawful_at_end, summary_is}

@@ -1,5 +1,5 @@
 -- Why an image is malformed, where its header is not refused.
-use Rattle.std.proofs.Common.{◌≡◌, ℕ, List, sym, ap, ◌∙◌, Option, None}
+use Rattle.std.proofs.Common.{◌≡◌, ℕ, List, ap, ◌∙◌, Option, None}
 use Rattle.cper_block.specs.Block.{Judges}
 use Rattle.cper_block.specs.Header.{header_of, block_length, header_reason}
 use Rattle.cper_block.specs.declared.malformed.Malformed.{Malformed}

@@ -8,14 +8,13 @@ use Rattle.std.proofs.lemmas.Option.{slice_get_within}
 use Rattle.cper_block.specs.declared.malformed.Malformed.{Malformed as Reason}
 use Rattle.ghes_replay.specs.declared.execute.Replay.{Replay}
 use Rattle.ghes_script.specs.declared.line.What.TheVariants.{Raise, Nmi, Work}
-use Rattle.ghes_replay.specs.declared.ledger.Outcome.{Outcome}
-use Rattle.ghes_replay.specs.declared.ledger.Outcome.TheVariants.{Nothing, Queued, Malformed, Fatal, NoSlot}
+use Rattle.ghes_replay.specs.declared.ledger.Outcome.TheVariants.{Nothing}
 use Rattle.ghes_replay.specs.Call.{block_of, is_full, outcome_by, call_at}
 use Rattle.ghes_replay.specs.Execute.{takings, worked, marked}
 use Rattle.ghes_replay.specs.History.{Step, acts_in, calls_in, taken_in}
 use Rattle.ghes_replay.specs.Image.{image_of, image_reason, is_fatal}
 use Rattle.ghes_replay.specs.Queue.{queue, number_of, acknowledged, standing}
-use Rattle.ghes_replay.specs.Lawful.{queued_names, fatal_names, taken_names, panic_names, waiting, name_of, FitsBlock, FitsSlots, TakesAll, TakesAtEnd}
+use Rattle.ghes_replay.specs.Lawful.{queued_names, fatal_names, taken_names, panic_names, waiting, name_of, FitsBlock, FitsSlots, TakesAtEnd}
 use Rattle.ghes_replay.proofs.Facts.{length-range}
 use Rattle.ghes_replay.proofs.Follows.{IsKept, IsTold, AreLawfulSteps}
 use Rattle.ghes_replay.proofs.KeptSteps.{no_fatal}

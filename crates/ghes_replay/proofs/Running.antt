@@ -1,5 +1,5 @@
 -- A replay in the middle of its script: a history of the lines so far leads to the state, and the text is its text.
-use Rattle.std.proofs.Common.{◌≡◌, ℕ, zero, suc, ◌+◌, ◌<◌, ◌≤◌, Bool, true, false, not, eqb, List, [], ◌∷◌, ◌++◌, map, length, take, get_or, refl, sym, ap, ◌∙◌, subst, arith, append-nil, Option, Some, None}
+use Rattle.std.proofs.Common.{◌≡◌, ℕ, zero, suc, ◌+◌, ◌<◌, ◌≤◌, Bool, true, false, not, eqb, List, [], ◌∷◌, ◌++◌, map, length, take, get_or, refl, sym, ap, ◌∙◌, subst, arith, Option, Some, None}
 use Rattle.std.specs.List.{AllByRecursion}
 use Rattle.std.proofs.lemmas.Bool.{false≢true, eqb-true}
 use Rattle.std.proofs.lemmas.List.{map-append, length-append, take_more, nil_from_length}
@@ -11,7 +11,7 @@ use Rattle.ghes_replay.specs.declared.ledger.PanicEntry.{PanicEntry}
 use Rattle.ghes_replay.specs.declared.pending.Packet.{Packet}
 use Rattle.ghes_replay.specs.Blocks.{Raised}
 use Rattle.ghes_replay.specs.Kept.{Kept, nothing_kept}
-use Rattle.ghes_replay.specs.Execute.{executed, acted, outcome_now, step_of, calls_by, taken_by}
+use Rattle.ghes_replay.specs.Execute.{executed, acted, outcome_now, step_of}
 use Rattle.ghes_replay.specs.History.{Step, act_of, script_end, acts_of, acts_in}
 use Rattle.ghes_script.specs.Script.{IsOfFirst}
 use Rattle.ghes_replay.specs.Text.{step_text, history_text}

@@ -1,5 +1,5 @@
 -- What is taken of a block may be printed.
-use Rattle.std.proofs.Common.{◌≡◌, ◌≤◌, ℕ, Bool, List, [], ◌∷◌, ◌++◌, ◌+◌, map, length, drop, true, false, refl, sym, subst, arith, Option, Some, None}
+use Rattle.std.proofs.Common.{◌≡◌, ◌≤◌, ℕ, List, [], ◌∷◌, ◌++◌, ◌+◌, map, length, drop, true, false, refl, sym, subst, arith, Option, Some, None}
 use Rattle.std.specs.List.{AllByRecursion}
 use Rattle.std.proofs.lemmas.List.{drop_all, drop_at}
 use Rattle.cper_block.specs.Block.{Judges}
@@ -17,8 +17,7 @@ use Rattle.ghes_script.specs.declared.line.What.TheVariants.{Raise, Nmi, Work}
 use Rattle.ghes_replay.specs.Execute.{takings, acted, worked}
 use Rattle.ghes_replay.specs.Image.{padded, image_of, image_reason_by}
 use Rattle.ghes_replay.specs.Kept.{taken_by_reason, reports_of_packet, panic_entry}
-use Rattle.ghes_replay.specs.Lawful.{packet_of}
-use Rattle.ghes_replay.specs.Sound.{IsSoundWith, IsSound, IsSoundTaken, IsSoundEntry}
+use Rattle.ghes_replay.specs.Sound.{IsSound, IsSoundTaken, IsSoundEntry}
 
 sound_by : (front : Option Malformed) (limit : ℕ) (image : List ℕ) → limit ≤ 65536 → image_reason_by front limit image ≡ None → reason_of image 65536 ≡ None
 sound_by (Some reason) limit image few none = let never : Some reason ≡ None = none in absurd cc

@@ -1,5 +1,5 @@
 -- Each act goes on with the history that a state tells.
-use Rattle.std.proofs.Common.{◌≡◌, ℕ, ◌+◌, Bool, true, false, cond, eqb, List, [], ◌∷◌, ◌++◌, length, refl, sym, ap, ◌∙◌, append-nil, Option, Some, None}
+use Rattle.std.proofs.Common.{◌≡◌, ℕ, cond, eqb, List, [], ◌∷◌, ◌++◌, length, refl, sym, ap, ◌∙◌, append-nil, Option, Some}
 use Rattle.std.proofs.lemmas.List.Concat.{flat_map-append}
 use Rattle.ghes_replay.specs.declared.execute.Replay.{Replay}
 use Rattle.ghes_script.specs.declared.line.What.{What}

@@ -1,5 +1,5 @@
 -- What executing a line does to the state of a replay. The laws of `Lawful` are proved of it, and know nothing of it.
-use Rattle.std.specs.Prelude.{ℕ, ◌+◌, List, [], ◌∷◌, ◌++◌, map, length, Bool, true, false, Option, Some, None}
+use Rattle.std.specs.Prelude.{ℕ, ◌+◌, List, [], ◌∷◌, ◌++◌, map, length, true, false, Option, Some, None}
 use Rattle.std.specs.List.{flat_map}
 use Rattle.ghes_replay.specs.declared.execute.Replay.{Replay}
 use Rattle.ghes_script.specs.declared.line.What.{What}

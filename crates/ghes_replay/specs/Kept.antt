@@ -1,5 +1,5 @@
 -- What a ledger keeps, and what one more block or line adds to it.
-use Rattle.std.specs.Prelude.{ℕ, List, [], ◌∷◌, length, Bool, true, false, Option, Some, None}
+use Rattle.std.specs.Prelude.{ℕ, List, [], ◌∷◌, length, Bool, Option, Some, None}
 use Rattle.cper_block.specs.declared.malformed.Malformed.{Malformed}
 use Rattle.ghes_replay.specs.declared.ledger.Call.{Call}
 use Rattle.ghes_replay.specs.declared.ledger.Taken.{Taken}

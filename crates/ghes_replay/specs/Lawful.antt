@@ -1,6 +1,6 @@
 -- When a ledger is lawful: its laws speak of the script's lines, the blocks of each source and the ledger, and
 -- of nothing that lies between a block and its fate.
-use Rattle.std.specs.Prelude.{◌≡◌, ◌≤◌, ◌<◌, ℕ, ◌+◌, ◌==◌, if◌then◌else◌, not, Bool, true, false, List, [], ◌∷◌, ◌++◌, map, length, take, Option, Some, None, IsSome, IsNone}
+use Rattle.std.specs.Prelude.{◌≡◌, ◌≤◌, ◌<◌, ℕ, ◌+◌, ◌==◌, if◌then◌else◌, not, Bool, true, false, List, [], ◌∷◌, ◌++◌, map, length, take, Option, Some, None, IsNone}
 use Rattle.std.specs.List.{flat_map, filter, range_with_len, AllByRecursion}
 use Rattle.ghes_script.specs.declared.line.Line.{Line}
 use Rattle.ghes_script.specs.declared.line.What.{What}

@@ -1,4 +1,5 @@
 // Runs over files and an output in memory. The sample tables and blocks stand in docs/FORMATS.md.
+mod blocks;
 mod checks;
 mod decodes;
 mod outputs;

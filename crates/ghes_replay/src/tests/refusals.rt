@@ -81,7 +81,7 @@ fn a_script_is_refused_at_its_first_bad_line(rt: HostRuntime) -> Result<(), Fail
 fn words_that_are_no_form_give_the_usage(rt: HostRuntime) -> Result<(), Fail> {
     let alloc = rt.alloc();
     let table = one_source(alloc)?;
-    let cases: [&[&str]; 14] = [
+    let cases: [&[&str]; 15] = [
         &[],
         &["--help"],
         &["replay", "hest"],
@@ -94,7 +94,8 @@ fn words_that_are_no_form_give_the_usage(rt: HostRuntime) -> Result<(), Fail> {
         &["check", "hest", "--"],
         &["check", "hest", "-", "more"],
         &["Check", "hest", "-"],
-        &["decode", "hest"],
+        &["decode"],
+        &["decode", "hest", "more"],
         &["load", "8"],
     ];
     for case in &cases {

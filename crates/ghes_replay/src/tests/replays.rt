@@ -58,6 +58,7 @@ fn the_ledger_has_the_call_the_block_its_report_and_the_marks(rt: HostRuntime) -
             assert_eq!(rt; bytes.as_slice().len(), 20);
             assert_eq!(rt; *reported, Reported::New(1));
         }
+        Taken::Dropped { .. } => panic!(rt; "dropped"),
     }
     assert_eq!(rt; ledger.reports.len(), 1);
     assert_eq!(rt; ledger.marks.len(), 3);
