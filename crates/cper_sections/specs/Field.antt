@@ -18,6 +18,10 @@ pub record Field : Type 0 where
   pub width : ℕ
   pub form : Form
 
+-- the offset of the first byte behind a field (UEFI 2.10, appendix N.2)
+abbrev pub end_of : Field → ℕ
+end_of field = field.at + field.width
+
 -- the rows of a section's table of fields: name, bit, offset and width (UEFI 2.10, appendix N.2)
 abbrev pub number_field : List ℕ → ℕ → ℕ → ℕ → Field
 number_field name bit at width = record { name = name; bit = bit; at = at; width = width; form = Number }

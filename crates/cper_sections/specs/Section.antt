@@ -1,9 +1,9 @@
 -- Which section bytes are: by the GUID of their data entry, and by their length (UEFI 2.10, appendix N.2.2).
-use Rattle.std.specs.Prelude.{ℕ, nat_lt, if◌then◌else◌, List, length, codes, unwrap_or, Option, Some, None}
+use Rattle.std.specs.Prelude.{ℕ, nat_lt, if◌then◌else◌, List, [], ◌∷◌, length, codes, unwrap_or, Option, Some, None}
 use Rattle.std.specs.Str.{bytes_eq}
 use Rattle.uuid.specs.Text.{parsed}
 use Rattle.cper_sections.specs.Field.{Field}
-use Rattle.cper_sections.specs.Memory.{memory_fields}
+use Rattle.cper_sections.specs.Memory.{memory_fields, rank, card_handle, module_handle}
 use Rattle.cper_sections.specs.Pcie.{pcie_fields}
 use Rattle.cper_sections.specs.Processor.{processor_fields}
 use Rattle.cper_sections.specs.declared.kind.Kind.{Kind}
@@ -13,9 +13,9 @@ use Rattle.cper_sections.specs.declared.section.Section.TheVariants as sections
 
 -- the GUID that names a kind of section (UEFI 2.10, appendix N.2.2)
 unfoldable pub guid_of : Kind → List ℕ
-guid_of kinds.Memory = unwrap_or (parsed (codes "a5bc1114-6f64-4ede-b863-3e83ed7c83b1")) (codes "")
-guid_of kinds.Processor = unwrap_or (parsed (codes "9876ccad-47b4-4bdb-b65e-16f193c4f3db")) (codes "")
-guid_of kinds.Pcie = unwrap_or (parsed (codes "d995e954-bbc1-430f-ad91-b44dcb3c6f35")) (codes "")
+guid_of kinds.Memory = unwrap_or (parsed (codes "a5bc1114-6f64-4ede-b863-3e83ed7c83b1")) []
+guid_of kinds.Processor = unwrap_or (parsed (codes "9876ccad-47b4-4bdb-b65e-16f193c4f3db")) []
+guid_of kinds.Pcie = unwrap_or (parsed (codes "d995e954-bbc1-430f-ad91-b44dcb3c6f35")) []
 
 -- the kind of section that a GUID names, if it names one that is read here (UEFI 2.10, appendix N.2.2)
 abbrev pub kind_of : List ℕ → Option Kind
@@ -37,6 +37,13 @@ abbrev pub fields_of : Kind → List Field
 fields_of kinds.Memory = memory_fields
 fields_of kinds.Processor = processor_fields
 fields_of kinds.Pcie = pcie_fields
+
+-- the fields that a section of a kind may lack: those that an older version of the standard does not have
+-- (after Linux 6.1, include/linux/cper.h)
+abbrev pub late_fields : Kind → List Field
+late_fields kinds.Memory = rank ∷ card_handle ∷ module_handle ∷ []
+late_fields kinds.Processor = []
+late_fields kinds.Pcie = []
 
 -- a section as a whole one of a kind, a short one of a kind, or one of another type, with its bytes (own choice)
 pub data Reading : Type 0 where

@@ -3,6 +3,7 @@
 
 mod field;
 mod kind;
+mod laws;
 mod memory;
 mod pcie;
 mod processor;
@@ -11,6 +12,10 @@ mod section;
 mod tests;
 
 pub use kind::Kind;
+pub use laws::{
+    each_field_lies_in_its_section_or_is_late, each_kind_has_its_own_guid, no_two_fields_overlap,
+    what_stands_behind_a_field_is_not_read,
+};
 pub use memory::Memory;
 pub use pcie::Pcie;
 pub use processor::Processor;
