@@ -5,6 +5,58 @@ use hex::FromHex;
 use std::test::Fail;
 use uuid::Uuid;
 
+// The fields of 8 bytes, in the order of the table, and what they are where each byte is its own offset.
+fn quads(memory: &Memory) -> [Option<u64>; 6] {
+    [
+        memory.status(),
+        memory.physical_address(),
+        memory.mask(),
+        memory.requestor(),
+        memory.responder(),
+        memory.target(),
+    ]
+}
+
+const QUADS: [Option<u64>; 6] = [
+    Some(0x0f0e_0d0c_0b0a_0908),
+    Some(0x1716_1514_1312_1110),
+    Some(0x1f1e_1d1c_1b1a_1918),
+    Some(0x3736_3534_3332_3130),
+    Some(0x3f3e_3d3c_3b3a_3938),
+    Some(0x4746_4544_4342_4140),
+];
+
+// The same of the fields of 2 bytes.
+fn words(memory: &Memory) -> [Option<u16>; 11] {
+    [
+        memory.node(),
+        memory.card(),
+        memory.module(),
+        memory.bank(),
+        memory.device(),
+        memory.row(),
+        memory.column(),
+        memory.bit_position(),
+        memory.rank(),
+        memory.card_handle(),
+        memory.module_handle(),
+    ]
+}
+
+const WORDS: [Option<u16>; 11] = [
+    Some(0x2120),
+    Some(0x2322),
+    Some(0x2524),
+    Some(0x2726),
+    Some(0x2928),
+    Some(0x2b2a),
+    Some(0x2d2c),
+    Some(0x2f2e),
+    Some(0x4b4a),
+    Some(0x4d4c),
+    Some(0x4f4e),
+];
+
 // Which fields are given, in the order of the table.
 fn given(memory: &Memory) -> [bool; 18] {
     [
@@ -39,24 +91,9 @@ fn each_field_of_a_memory_section_has_its_place(rt: HostRuntime) -> Result<(), F
         ) else {
             panic!(rt; "no memory section of {length} bytes");
         };
-        assert_eq!(rt; memory.status(), Some(0x0f0e_0d0c_0b0a_0908));
-        assert_eq!(rt; memory.physical_address(), Some(0x1716_1514_1312_1110));
-        assert_eq!(rt; memory.mask(), Some(0x1f1e_1d1c_1b1a_1918));
-        assert_eq!(rt; memory.node(), Some(0x2120));
-        assert_eq!(rt; memory.card(), Some(0x2322));
-        assert_eq!(rt; memory.module(), Some(0x2524));
-        assert_eq!(rt; memory.bank(), Some(0x2726));
-        assert_eq!(rt; memory.device(), Some(0x2928));
-        assert_eq!(rt; memory.row(), Some(0x2b2a));
-        assert_eq!(rt; memory.column(), Some(0x2d2c));
-        assert_eq!(rt; memory.bit_position(), Some(0x2f2e));
-        assert_eq!(rt; memory.requestor(), Some(0x3736_3534_3332_3130));
-        assert_eq!(rt; memory.responder(), Some(0x3f3e_3d3c_3b3a_3938));
-        assert_eq!(rt; memory.target(), Some(0x4746_4544_4342_4140));
-        assert_eq!(rt; memory.kind(), Some(0x48));
-        assert_eq!(rt; memory.rank(), Some(0x4b4a));
-        assert_eq!(rt; memory.card_handle(), Some(0x4d4c));
-        assert_eq!(rt; memory.module_handle(), Some(0x4f4e));
+        assert_eq!(rt; quads(&memory), QUADS, "of {length} bytes");
+        assert_eq!(rt; words(&memory), WORDS, "of {length} bytes");
+        assert_eq!(rt; memory.kind(), Some(0x48), "of {length} bytes");
     }
     Ok(())
 }

@@ -7,6 +7,45 @@ use uuid::Uuid;
 // The bits of the fields, in the order of the table.
 const BITS: [u32; 19] = [0, 1, 1, 2, 2, 3, 3, 3, 3, 3, 3, 3, 3, 3, 4, 5, 5, 6, 7];
 
+// The fields of one byte, in the order of the table, and what they are where each byte is its own offset.
+fn single(pcie: &Pcie) -> [Option<u8>; 6] {
+    [
+        pcie.version_minor(),
+        pcie.version_major(),
+        pcie.function(),
+        pcie.device(),
+        pcie.bus(),
+        pcie.secondary_bus(),
+    ]
+}
+
+const SINGLE: [Option<u8>; 6] = [Some(12), Some(13), Some(31), Some(32), Some(35), Some(36)];
+
+// The same of the fields of 2 bytes.
+fn words(pcie: &Pcie) -> [Option<u16>; 8] {
+    [
+        pcie.command(),
+        pcie.status(),
+        pcie.vendor(),
+        pcie.device_id(),
+        pcie.segment(),
+        pcie.slot(),
+        pcie.bridge_status(),
+        pcie.bridge_control(),
+    ]
+}
+
+const WORDS: [Option<u16>; 8] = [
+    Some(0x1110),
+    Some(0x1312),
+    Some(0x1918),
+    Some(0x1b1a),
+    Some(0x2221),
+    Some(0x2625),
+    Some(0x3130),
+    Some(0x3332),
+];
+
 // Which fields are given, in the order of the table.
 fn given(pcie: &Pcie) -> [bool; 19] {
     [
@@ -40,21 +79,9 @@ fn each_number_of_a_pcie_section_has_its_place(rt: HostRuntime) -> Result<(), Fa
         else {
             panic!(rt; "no PCIe section of {length} bytes");
         };
-        assert_eq!(rt; pcie.port_type(), Some(0x0b0a_0908));
-        assert_eq!(rt; pcie.version_minor(), Some(12));
-        assert_eq!(rt; pcie.version_major(), Some(13));
-        assert_eq!(rt; pcie.command(), Some(0x1110));
-        assert_eq!(rt; pcie.status(), Some(0x1312));
-        assert_eq!(rt; pcie.vendor(), Some(0x1918));
-        assert_eq!(rt; pcie.device_id(), Some(0x1b1a));
-        assert_eq!(rt; pcie.function(), Some(31));
-        assert_eq!(rt; pcie.device(), Some(32));
-        assert_eq!(rt; pcie.segment(), Some(0x2221));
-        assert_eq!(rt; pcie.bus(), Some(35));
-        assert_eq!(rt; pcie.secondary_bus(), Some(36));
-        assert_eq!(rt; pcie.slot(), Some(0x2625));
-        assert_eq!(rt; pcie.bridge_status(), Some(0x3130));
-        assert_eq!(rt; pcie.bridge_control(), Some(0x3332));
+        assert_eq!(rt; pcie.port_type(), Some(0x0b0a_0908), "of {length} bytes");
+        assert_eq!(rt; single(&pcie), SINGLE, "of {length} bytes");
+        assert_eq!(rt; words(&pcie), WORDS, "of {length} bytes");
     }
     Ok(())
 }

@@ -4,6 +4,41 @@ use crate::{Processor, Section};
 use std::test::Fail;
 use uuid::Uuid;
 
+// The fields of one byte, in the order of the table, and what they are where each byte is its own offset.
+fn single(processor: &Processor) -> [Option<u8>; 6] {
+    [
+        processor.processor_type(),
+        processor.isa(),
+        processor.error_type(),
+        processor.operation(),
+        processor.flags(),
+        processor.level(),
+    ]
+}
+
+const SINGLE: [Option<u8>; 6] = [Some(8), Some(9), Some(10), Some(11), Some(12), Some(13)];
+
+// The same of the fields of 8 bytes.
+fn quads(processor: &Processor) -> [Option<u64>; 6] {
+    [
+        processor.version(),
+        processor.id(),
+        processor.target_address(),
+        processor.requestor(),
+        processor.responder(),
+        processor.instruction_pointer(),
+    ]
+}
+
+const QUADS: [Option<u64>; 6] = [
+    Some(0x1716_1514_1312_1110),
+    Some(0x9f9e_9d9c_9b9a_9998),
+    Some(0xa7a6_a5a4_a3a2_a1a0),
+    Some(0xafae_adac_abaa_a9a8),
+    Some(0xb7b6_b5b4_b3b2_b1b0),
+    Some(0xbfbe_bdbc_bbba_b9b8),
+];
+
 // Which fields are given, in the order of the table.
 fn given(processor: &Processor) -> [bool; 13] {
     [
@@ -33,24 +68,11 @@ fn each_field_of_a_processor_section_has_its_place(rt: HostRuntime) -> Result<()
         ) else {
             panic!(rt; "no processor section of {length} bytes");
         };
-        assert_eq!(rt; processor.processor_type(), Some(8));
-        assert_eq!(rt; processor.isa(), Some(9));
-        assert_eq!(rt; processor.error_type(), Some(10));
-        assert_eq!(rt; processor.operation(), Some(11));
-        assert_eq!(rt; processor.flags(), Some(12));
-        assert_eq!(rt; processor.level(), Some(13));
-        assert_eq!(rt; processor.version(), Some(0x1716_1514_1312_1110));
+        assert_eq!(rt; single(&processor), SINGLE, "of {length} bytes");
+        assert_eq!(rt; quads(&processor), QUADS, "of {length} bytes");
         let brand = processor.brand().unwrap_or(&[]);
-        assert_eq!(rt; brand.len(), 128);
-        assert_eq!(rt; (brand[0], brand[127]), (24, 151));
-        assert_eq!(rt; processor.id(), Some(0x9f9e_9d9c_9b9a_9998));
-        assert_eq!(rt; processor.target_address(), Some(0xa7a6_a5a4_a3a2_a1a0));
-        assert_eq!(rt; processor.requestor(), Some(0xafae_adac_abaa_a9a8));
-        assert_eq!(rt; processor.responder(), Some(0xb7b6_b5b4_b3b2_b1b0));
-        assert_eq!(rt;
-            processor.instruction_pointer(),
-            Some(0xbfbe_bdbc_bbba_b9b8)
-        );
+        assert_eq!(rt; brand.len(), 128, "of {length} bytes");
+        assert_eq!(rt; (brand[0], brand[127]), (24, 151), "of {length} bytes");
     }
     Ok(())
 }
