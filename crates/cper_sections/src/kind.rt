@@ -29,6 +29,7 @@ const PCIE: [u8; 16] =
 
 impl Kind {
     // The GUID that names the kind.
+    #[tactic(auto, unfolding(crate::specs::Section::guid_of, uuid::proofs::OnLiterals::uuid_on_literals))]
     fn guid(self) -> Uuid
         ensures { result ≡ guid_of self }
     {
