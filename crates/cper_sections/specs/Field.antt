@@ -10,7 +10,7 @@ pub data Form : Type 0 where
   Number Bytes Text : Form
 
 -- A field of a section: its name, its bit of the validation number, its offset and its width in bytes, and how it is
--- read (UEFI 2.10, appendix N.2).
+-- read (UEFI 2.10, appendix N.2; the names: own choice).
 pub record Field : Type 0 where
   pub name : List ℕ
   pub bit : ℕ
@@ -53,7 +53,7 @@ bytes_in bit at width bytes = if is_given bit at width bytes then Some (take wid
 abbrev pub text_in : ℕ → ℕ → ℕ → List ℕ → Option (List ℕ)
 text_in bit at width bytes = option_map (before_first (λ byte. byte == 0)) (bytes_in bit at width bytes)
 
--- what a field of a section says (UEFI 2.10, appendix N.2)
+-- what a field of a section says, by its row: as a number, as bytes, as a text (UEFI 2.10, appendix N.2)
 abbrev pub number_of : Field → List ℕ → Option ℕ
 number_of field bytes = number_in field.bit field.at field.width bytes
 

@@ -25,8 +25,8 @@ kind_of guid =
     else if bytes_eq guid (guid_of kinds.Pcie) then Some kinds.Pcie
     else None
 
--- how many bytes a section of a kind has at least
--- (UEFI 2.10, appendix N.2.4.1, N.2.5, N.2.7; a memory section may end behind its type: after Linux 6.1, drivers/firmware/efi/cper.c)
+-- how many bytes a section of a kind has at least (UEFI 2.10, appendix N.2.4.1, N.2.5, N.2.7; that a memory section
+-- may end behind its type: after Linux 6.1, drivers/firmware/efi/cper.c)
 abbrev pub least_length : Kind → ℕ
 least_length kinds.Memory = 73
 least_length kinds.Processor = 192
@@ -50,7 +50,7 @@ pub data Reading : Type 0 where
   Whole Short : Kind → List ℕ → Reading
   Other : List ℕ → Reading
 
--- how bytes are read under a kind, or none (UEFI 2.10, appendix N.2.2; that too few bytes are told apart: own choice)
+-- how bytes are read as a section of a kind, or of none: they are short below its least length (own choice)
 abbrev pub reading_as : Option Kind → List ℕ → Reading
 reading_as (Some kind) bytes = if nat_lt (length bytes) (least_length kind) then Short kind bytes else Whole kind bytes
 reading_as None bytes = Other bytes

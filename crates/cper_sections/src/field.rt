@@ -28,7 +28,8 @@ fn is_given(bytes: &[u8], field: Field) -> bool
 // The bytes from the field on, where it is given.
 fn begun(bytes: &[u8], field: Field) -> Option<&[u8]>
     requires { 8 ≤ length bytes.now }
-    ensures { option_copied result ≡ (if is_given field.bit field.at field.width bytes.now then Some (drop field.at bytes.now) else None) }
+    ensures { option_copied result ≡ (if is_given field.bit field.at field.width bytes.now
+        then Some (drop field.at bytes.now) else None) }
 {
     if is_given(bytes, field) {
         Some(bytes.split_at(field.at).1)

@@ -21,7 +21,8 @@ pub fn no_two_fields_overlap()
 /// The fields that do not fit into the least bytes of their section are the late ones: of a memory section rank, card
 /// handle and module handle, and no others.
 pub fn each_field_lies_in_its_section_or_is_late()
-    ensures { (kind : Kind) → filter (λ field. not (nat_le (end_of field) (least_length kind))) (fields_of kind) ≡ late_fields kind }
+    ensures { (kind : Kind) → filter (λ field. not (nat_le (end_of field) (least_length kind))) (fields_of kind)
+        ≡ late_fields kind }
 {}
 
 /// A field that is at hand is read from the bytes up to its end, whatever stands behind it.

@@ -13,7 +13,7 @@ pub enum Section<'a> {
     Pcie(Pcie<'a>),
     /// A section whose fields are not read here.
     Other(&'a [u8]),
-    /// A section of this kind, but of fewer bytes than it needs: 73, 192 and 208.
+    /// A section of this kind with too few bytes: a memory section needs 73, a processor section 192, a PCIe section 208.
     Short(Kind, &'a [u8]),
 }
 
