@@ -11,7 +11,7 @@ use Rattle.uuid.proofs.OnLiterals.{uuid_on_literals}
 use Rattle.cper_sections.specs.declared.kind.Kind.{Kind}
 use Rattle.cper_sections.specs.declared.kind.Kind.TheVariants.{Memory, Processor, Pcie}
 use Rattle.cper_sections.specs.Field.{Field, end_of}
-use Rattle.cper_sections.specs.Section.{guid_of, kind_of, least_length, fields_of, late_fields}
+use Rattle.cper_sections.specs.Section.{guid_of, kind_of, least_length, section_fields, late_fields}
 
 -- two tests that both pass
 both : (a b : Bool) → (a && b) ≡ true → (a ≡ true) × (b ≡ true)
@@ -39,20 +39,20 @@ apart_when_tested (field ∷ later) e =
     AllPairs-cons (λ first second. end_of first ≤ second.at) field later (begin_behind (end_of field) later passed.0) (apart_when_tested later passed.1)
 
 -- no field begins in the validation number
-pub behind_validation : (kind : Kind) → All (λ field. 8 ≤ field.at) (fields_of kind)
-behind_validation Memory = begin_behind 8 (fields_of Memory) refl
-behind_validation Processor = begin_behind 8 (fields_of Processor) refl
-behind_validation Pcie = begin_behind 8 (fields_of Pcie) refl
+pub behind_validation : (kind : Kind) → All (λ field. 8 ≤ field.at) (section_fields kind)
+behind_validation Memory = begin_behind 8 (section_fields Memory) refl
+behind_validation Processor = begin_behind 8 (section_fields Processor) refl
+behind_validation Pcie = begin_behind 8 (section_fields Pcie) refl
 
 -- no field reaches into a later one
-pub apart : (kind : Kind) → AllPairs (λ field later. end_of field ≤ later.at) (fields_of kind)
+pub apart : (kind : Kind) → AllPairs (λ field later. end_of field ≤ later.at) (section_fields kind)
 unfolding all_apart
-apart Memory = apart_when_tested (fields_of Memory) refl
-apart Processor = apart_when_tested (fields_of Processor) refl
-apart Pcie = apart_when_tested (fields_of Pcie) refl
+apart Memory = apart_when_tested (section_fields Memory) refl
+apart Processor = apart_when_tested (section_fields Processor) refl
+apart Pcie = apart_when_tested (section_fields Pcie) refl
 
 -- the fields that do not fit into the least bytes
-pub late : (kind : Kind) → filter (λ field. not (leb (end_of field) (least_length kind))) (fields_of kind) ≡ late_fields kind
+pub late : (kind : Kind) → filter (λ field. not (leb (end_of field) (least_length kind))) (section_fields kind) ≡ late_fields kind
 late Memory = refl
 late Processor = refl
 late Pcie = refl

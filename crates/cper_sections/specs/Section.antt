@@ -33,10 +33,10 @@ least_length kinds.Processor = 192
 least_length kinds.Pcie = 208
 
 -- the fields of a section of a kind, in order (UEFI 2.10, appendix N.2.4.1, N.2.5, N.2.7)
-abbrev pub fields_of : Kind → List Field
-fields_of kinds.Memory = memory_fields
-fields_of kinds.Processor = processor_fields
-fields_of kinds.Pcie = pcie_fields
+abbrev pub section_fields : Kind → List Field
+section_fields kinds.Memory = memory_fields
+section_fields kinds.Processor = processor_fields
+section_fields kinds.Pcie = pcie_fields
 
 -- the fields that a section of a kind may lack: those that an older version of the standard does not have
 -- (after Linux 6.1, include/linux/cper.h)

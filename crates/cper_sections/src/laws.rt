@@ -3,7 +3,7 @@ ghost use Rattle.std.specs.Prelude.{◌≡◌, ◌≤◌, ◌+◌, ◌++◌, ℕ
 ghost use Rattle.std.specs.List.{AllPairs};
 ghost use Rattle.cper_sections.specs.declared.kind.Kind.{Kind};
 ghost use Rattle.cper_sections.specs.Field.{Field, end_of, number_of, bytes_of, text_of};
-ghost use Rattle.cper_sections.specs.Section.{guid_of, kind_of, least_length, fields_of, late_fields};
+ghost use Rattle.cper_sections.specs.Section.{guid_of, kind_of, least_length, section_fields, late_fields};
 
 /// A GUID names a kind exactly where it is that kind's own.
 pub fn each_kind_has_its_own_guid()
@@ -14,14 +14,14 @@ pub fn each_kind_has_its_own_guid()
 /// No two fields of a section share a byte: each begins behind the validation number, and ends where the next begins
 /// or before.
 pub fn no_two_fields_overlap()
-    ensures behind_validation { (kind : Kind) → All (λ field. 8 ≤ field.at) (fields_of kind) }
-    ensures apart { (kind : Kind) → AllPairs (λ field later. end_of field ≤ later.at) (fields_of kind) }
+    ensures behind_validation { (kind : Kind) → All (λ field. 8 ≤ field.at) (section_fields kind) }
+    ensures apart { (kind : Kind) → AllPairs (λ field later. end_of field ≤ later.at) (section_fields kind) }
 {}
 
 /// The fields that do not fit into the least bytes of their section are the late ones: of a memory section rank, card
 /// handle and module handle, and no others.
 pub fn each_field_lies_in_its_section_or_is_late()
-    ensures { (kind : Kind) → filter (λ field. not (nat_le (end_of field) (least_length kind))) (fields_of kind)
+    ensures { (kind : Kind) → filter (λ field. not (nat_le (end_of field) (least_length kind))) (section_fields kind)
         ≡ late_fields kind }
 {}
 
