@@ -1,0 +1,22 @@
+//! Reads the memory, processor and PCIe sections of error records: which section the bytes are, and what its fields say.
+#![tactic(auto)]
+
+mod field;
+mod kind;
+mod laws;
+mod memory;
+mod pcie;
+mod processor;
+mod section;
+#[cfg(test)]
+mod tests;
+
+pub use kind::Kind;
+pub use laws::{
+    each_field_lies_in_its_section_or_is_late, each_kind_has_its_own_guid, no_two_fields_overlap,
+    what_stands_behind_a_field_is_not_read,
+};
+pub use memory::Memory;
+pub use pcie::Pcie;
+pub use processor::Processor;
+pub use section::Section;
