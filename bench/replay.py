@@ -1,7 +1,8 @@
 #!/usr/bin/env python3
 """Times two replays of the built program: run by hand, `bench/replay.py` at the top of the checkout.
 
-It makes scripts of 8 and 16 MiB of `nmi` lines, and of `raise`, `nmi`, `work` lines, and prints for each the
+It makes scripts of 8 and 16 MiB of `nmi` lines, and of `raise`, `nmi`, `work` lines of a bare block and of a memory
+block, and prints for each the
 time, the bytes of script a second and the peak memory, and how the time grows from 8 to 16 MiB. Where valgrind
 is installed it counts instructions for a byte that is read and for each unit of lines from script to text, on 1
 and 2 MiB, so that the start is left out.
@@ -18,9 +19,16 @@ TOP = os.path.dirname(os.path.dirname(os.path.abspath(__file__)))
 PROGRAM = os.path.join(TOP, "crates/ghes/out/ghes")
 TABLE = os.path.join(TOP, "crates/ghes/data/hest.bin")
 MIB = 1024 * 1024
+# A corrected memory error in one data entry, 164 bytes.
+MEMORY = (
+    "1200000000000000000000009000000002000000" "1411bca5646fde4eb8633e83ed7c83b1"
+    "020000000102000050000000" + "00" * 36 + "06400000000000000000000000000000"
+    "0050341200000000" "00f0ffffffffffff" + "00" * 40 + "0200000000000000"
+)
 SHAPES = {
     "nmi lines": "nmi 1\n",
     "raise, nmi, work": "raise 1 0200000000000000000000000000000002000000\nnmi 1\nwork\n",
+    "raise, nmi, work of a memory block": f"raise 1 {MEMORY}\nnmi 1\nwork\n",
 }
 
 

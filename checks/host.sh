@@ -23,6 +23,8 @@ expect() {
 expect "the stored example" 0 "nmi 1: queued 1" replay "$data/hest.bin" - "$data/script"
 expect "a listing" 0 "hest: 1 sources" check "$data/hest.bin" -
 expect "a listing of a server" 0 "hest: 7 sources" check "$data/server.bin" -
+expect "a block" 0 "block of 164 bytes" decode "$data/block.bin"
+expect "bytes that are no block" 0 "malformed 1 too short" decode /dev/null
 own=/sys/firmware/acpi/tables/HEST
 if [ -r "$own" ]; then
   # The count of its structures stands at offset 36, the lowest byte first.
