@@ -1,5 +1,6 @@
 mod BodyLemmas
 mod Joining
 pub mod LimitLemmas
+mod LineLemmas
 pub mod OwnBytes
 mod ShownLemmas

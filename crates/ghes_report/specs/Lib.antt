@@ -2,3 +2,4 @@ pub mod Body
 pub mod Bytes
 pub mod Entry
 pub mod Report
+pub mod Section

@@ -3,23 +3,25 @@ ghost use Rattle.std.specs.Option.{option_copied};
 ghost use Rattle.std.specs.String.{string_bytes};
 ghost use Rattle.cper_block.specs.Entry.{view};
 ghost use Rattle.cper_block.specs.Cut.{entries_of};
-ghost use Rattle.ghes_report.specs.Entry.{entry_line, fru_id_line, fru_text_line, timestamp_line, section_text, entry_text, entries_text};
+ghost use Rattle.ghes_report.specs.Entry.{entry_line, fru_id_line, fru_text_line, timestamp_line, entry_text, entries_text};
 
 use crate::bytes::{bytes_line, text_line};
+use crate::section::{section_lines, type_text};
 use cper_block::{DataEntry, Entries, Severity};
+use cper_sections::Section;
 use std::alloc::{AllocError, Global};
 use uuid::Uuid;
 
-// The line of an entry: its number, the type of its section, and its severity.
+// The line of an entry: its number, the words for the type of its section, and its severity.
 fn entry_line(
     alloc: Global,
     number: u32,
-    guid: Uuid,
+    words: &str,
     severity: Severity,
 ) -> Result<String, AllocError>
-    ensures { IfOk result (λ line. string_bytes line ≡ entry_line number guid severity) }
+    ensures { IfOk result (λ line. string_bytes line ≡ entry_line number words.now severity) }
 {
-    format!(in alloc; "  entry {number} section {guid} severity {severity}\n")
+    format!(in alloc; "  entry {number} {words} severity {severity}\n")
 }
 
 // Appends the line of a FRU's id, where there is one.
@@ -60,14 +62,6 @@ fn timestamp_line(
     }
 }
 
-// Appends the lines of an entry's section.
-#[tactic(auto, unfolding(crate::specs::Entry::section_text))]
-fn section_text(alloc: Global, into: &mut Vec<u8>, entry: &DataEntry) -> Result<(), AllocError>
-    ensures { OnOk result (into.new.items ≡ into.old.items ++ section_text (view entry.now)) }
-{
-    bytes_line(alloc, into, "    data ", entry.section)
-}
-
 // Appends the lines of an entry with its number.
 #[tactic(auto, using(crate::proofs::Joining::grouped), unfolding(crate::specs::Entry::entry_text))]
 fn entry_text(
@@ -78,12 +72,15 @@ fn entry_text(
 ) -> Result<(), AllocError>
     ensures { OnOk result (into.new.items ≡ into.old.items ++ entry_text number (view entry.now)) }
 {
-    let line = entry_line(alloc, number, entry.guid, Severity::from(entry.severity))?;
+    let section = Section::read(&entry.guid, entry.section);
+    let words = type_text(alloc, &entry.guid, &section)?;
+    let severity = Severity::from(entry.severity);
+    let line = entry_line(alloc, number, words.as_str(), severity)?;
     into.extend_from_slice(line.as_bytes())?;
     fru_id_line(alloc, into, entry.fru_id)?;
     fru_text_line(into, entry.fru_text)?;
     timestamp_line(alloc, into, entry.timestamp)?;
-    section_text(alloc, into, entry)
+    section_lines(alloc, into, &section)
 }
 
 /// Appends the lines of the entries, which are numbered from 0.

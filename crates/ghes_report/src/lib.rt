@@ -5,8 +5,10 @@
 mod body;
 mod bytes;
 mod entry;
+mod field;
 mod laws;
 mod report;
+mod section;
 #[cfg(test)]
 mod tests;
 

@@ -2,6 +2,7 @@
 mod blocks;
 mod entries;
 mod memory;
+mod sections;
 
 use crate::block_text;
 use cper_block::Block;
@@ -22,11 +23,10 @@ const MEMORY: &str = "1200000000000000000000009000000002000000\
     0200000000000000";
 
 const MEMORY_TEXT: &str = "  severity corrected
-  entry 0 section a5bc1114-6f64-4ede-b863-3e83ed7c83b1 severity corrected
-    data \
-    06400000000000000000000000000000005034120000000000f0ffffffffffff\
-    00000000000000000000000000000000000000000000000000000000000000000000000000000000\
-    0200000000000000
+  entry 0 memory severity corrected
+    physical address 0x0000000012345000
+    mask 0xfffffffffffff000
+    type 0x02
 ";
 
 // The lines of the block at the front of the bytes.

@@ -98,14 +98,13 @@ fn a_block_ends_as_it_says(rt: HostRuntime) -> Result<(), Fail> {
 }
 
 #[test]
-fn a_block_with_data_is_reported_or_dropped_with_its_bytes(rt: HostRuntime) -> Result<(), Fail> {
+fn a_block_with_data_shows_its_fields_or_is_dropped_whole(rt: HostRuntime) -> Result<(), Fail> {
     let alloc = rt.alloc();
-    let section = MEMORY.split_at(168).1;
     let end = summary(alloc, [1, 1, 1, 0, 0])?;
     let script = format!(in alloc; "raise 1 {MEMORY}\nnmi 1\n")?;
     let text = format!(in alloc;
-        "nmi 1: queued 1\nreport source 1 block 1\n  severity corrected\n  entry 0 section \
-        a5bc1114-6f64-4ede-b863-3e83ed7c83b1 severity corrected\n    data {section}\n{end}"
+        "nmi 1: queued 1\nreport source 1 block 1\n  severity corrected\n  entry 0 memory severity corrected\n    \
+        physical address 0x0000000012345000\n    mask 0xfffffffffffff000\n    type 0x02\n{end}"
     )?;
     let ran = run_text(alloc, script.as_bytes())?;
     assert!(rt; ran.out.written() == text.as_bytes());
