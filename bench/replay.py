@@ -62,6 +62,18 @@ def instructions(path):
     return int(re.search(r"Collected : (\d+)", run.stderr).group(1))
 
 
+def body(folder):
+    """How many instructions the lines of a block with a memory section take, on average of 1,000."""
+    path, _, units = script(folder, f"raise 1 {MEMORY}\nnmi 1\nwork\n", 1000 * len(f"raise 1 {MEMORY}\nnmi 1\nwork\n"))
+    out = os.path.join(folder, "callgrind")
+    subprocess.run(
+        ["valgrind", "--tool=callgrind", f"--callgrind-out-file={out}", PROGRAM, "replay", TABLE, "-", path],
+        stdout=subprocess.DEVNULL, stderr=subprocess.DEVNULL, check=True)
+    listing = subprocess.run(["callgrind_annotate", "--inclusive=yes", out], stdout=subprocess.PIPE, text=True).stdout
+    count = re.search(r"([\d,]+) \([^)]*\)\s+\S*ghes_report::body::body_text ", listing)
+    return int(count.group(1).replace(",", "")) / units if count else None
+
+
 def main():
     if not os.access(PROGRAM, os.X_OK):
         sys.exit("build the program first: ./ghes replay crates/ghes/data/hest.bin - crates/ghes/data/script")
@@ -82,6 +94,9 @@ def main():
                 read = instructions(bad[1]) - instructions(bad[0])
                 print(f"  instructions: {read / (more_size - less_size):.0f} a byte to read the script,"
                       f" {count / (more_units - less_units):.0f} for {unit.count(chr(10))} line(s) in all")
+        if shutil.which("callgrind_annotate"):
+            each = body(folder)
+            print("the lines of a block with a memory section: " + (f"{each:.0f} instructions" if each else "not found"))
 
 
 main()
