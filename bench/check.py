@@ -6,18 +6,14 @@ order, and prints for each the time of `check`, the peak memory, and how the tim
 valgrind is installed it counts instructions for each structure, so that the start is left out.
 """
 import os
-import re
 import shutil
 import struct
-import subprocess
 import sys
 import tempfile
-import time
 
-TOP = os.path.dirname(os.path.dirname(os.path.abspath(__file__)))
-PROGRAM = os.path.join(TOP, "crates/ghes/out/ghes")
+from measure import MIB, PROGRAM, instructions, timed
+
 KIB = 1024
-MIB = 1024 * KIB
 
 
 def machine_check(number):
@@ -47,28 +43,6 @@ def table(folder, structure, size):
     return path, length, count
 
 
-def timed(path, out):
-    """The least of five times in seconds, and the peak memory in bytes."""
-    times = []
-    for _ in range(5):
-        with open(out, "wb") as text:
-            begin = time.monotonic()
-            child = subprocess.Popen([PROGRAM, "check", path, "-"], stdout=text)
-            _, status, usage = os.wait4(child.pid, 0)
-            times.append(time.monotonic() - begin)
-        if status != 0:
-            sys.exit(f"status {status} on {path}")
-    return min(times), usage.ru_maxrss * 1024
-
-
-def instructions(path):
-    """How many instructions a run takes, counted by valgrind."""
-    run = subprocess.run(
-        ["valgrind", "--tool=callgrind", "--callgrind-out-file=/dev/null", PROGRAM, "check", path, "-"],
-        stdout=subprocess.DEVNULL, stderr=subprocess.PIPE, text=True)
-    return int(re.search(r"Collected : (\d+)", run.stderr).group(1))
-
-
 def main():
     if not os.access(PROGRAM, os.X_OK):
         sys.exit("build the program first: ./ghes check crates/ghes/data/server.bin -")
@@ -77,12 +51,12 @@ def main():
         for name, structure in SHAPES.items():
             half, _, half_count = table(folder, structure, 512 * KIB)
             whole, size, count = table(folder, structure, MIB)
-            half_time, _ = timed(half, out)
-            whole_time, memory = timed(whole, out)
+            half_time, _ = timed(["check", half, "-"], out)
+            whole_time, memory = timed(["check", whole, "-"], out)
             print(f"{name}: {count} in {size} bytes, {whole_time * 1000:.0f} ms, peak {memory / MIB:.1f} MiB, a listing of"
                   f" {os.path.getsize(out) / MIB:.1f} MiB, 1 MiB against 512 KiB: {whole_time / half_time:.2f} times")
             if shutil.which("valgrind"):
-                more = instructions(whole) - instructions(half)
+                more = instructions(["check", whole, "-"]) - instructions(["check", half, "-"])
                 print(f"  instructions: {more / (count - half_count):.0f} for each structure")
 
 
