@@ -3,4 +3,3 @@ pub mod Loads
 pub mod MemFiles
 pub mod MemSink
 pub mod Outside
-pub mod Plan

@@ -2,7 +2,7 @@
 use Rattle.std.specs.Prelude.{◌≡◌, ◌≢◌, ℕ, List, [], Option, Some, None, Result, Err, if◌then◌else◌}
 use Rattle.std.specs.Option.{option_map}
 use Rattle.std.specs.BTreeMap.{get_by_text}
-use Rattle.ghes_outside.specs.Plan.{Calls, no_calls, fails_next}
+use Rattle.fault_plan.specs.Plan.{Calls, no_calls, fails_next}
 use Rattle.ghes_outside.specs.declared.files.LoadError.{LoadError}
 use Rattle.ghes_outside.specs.declared.files.LoadError.TheVariants.{Failed}
 use Rattle.ghes_outside.specs.Loads.{names_in, told_answer}

@@ -1,6 +1,6 @@
 -- What an output in memory holds, and what one put changes.
 use Rattle.std.specs.Prelude.{◌≤◌, ◌+◌, ◌-◌, ◌^◌, ◌++◌, ◌||◌, ℕ, Bool, List, [], length, min, nat_lt, Option, Some}
-use Rattle.ghes_outside.specs.Plan.{Calls, no_calls, with_call, fails_next}
+use Rattle.fault_plan.specs.Plan.{Calls, no_calls, with_call, fails_next}
 
 -- the bytes that were taken, the room for all of them, the numbered puts, and how often one has failed (own choice)
 pub record SinkState : Type 0 where

@@ -13,7 +13,6 @@ mod host_files;
 mod host_sink;
 mod mem_files;
 mod mem_sink;
-mod plan;
 mod sink;
 mod steps;
 

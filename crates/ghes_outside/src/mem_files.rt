@@ -2,8 +2,8 @@ ghost use Rattle.std.specs.Prelude.{◌≡◌, ◌≢◌, ◌≤◌, ◌++◌, [
 ghost use Rattle.ghes_outside.specs.Outside.{Rose, Agrees, IsLonger, names_after};
 ghost use Rattle.ghes_outside.specs.Loads.{names_in, told_answer, names_with, faults_with, faults_after};
 
-use crate::plan::Plan;
 use crate::{Files, LoadError};
+use fault_plan::Plan;
 use std::alloc::{AllocError, Global};
 use std::collections::BTreeMap;
 
@@ -49,7 +49,7 @@ impl MemFiles {
 
 impl Files for MemFiles {
     ghost use Rattle.ghes_outside.specs.MemFiles.{contents_of, failed_of, faults_of, calls_of, load_answer};
-    ghost use Rattle.ghes_outside.specs.Plan.{with_call};
+    ghost use Rattle.fault_plan.specs.Plan.{with_call};
 
     ghost contents = { contents_of };
 

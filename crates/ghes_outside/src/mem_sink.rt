@@ -1,8 +1,8 @@
 ghost use Rattle.std.specs.Prelude.{◌≡◌, ◌≤◌, ◌↔◌, IfOk, IsErr, IsTrue, OnOk, OnErr};
 ghost use Rattle.ghes_outside.specs.Outside.{Rose, Appends, AppendsFront};
 
-use crate::plan::Plan;
 use crate::{PutFailed, Sink};
+use fault_plan::Plan;
 use std::alloc::{AllocError, Global};
 use std::marker::Model;
 
