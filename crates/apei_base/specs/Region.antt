@@ -1,5 +1,5 @@
 -- Generic addresses (ACPI 6.5, 5.2.3.2), and the regions that they name.
-use Rattle.std.specs.Prelude.{ℕ, ◌+◌, ◌/◌, ◌%◌, ◌^◌, max, Bool, ◌&&◌, ◌==◌, nat_lt, nat_le, if◌then◌else◌, List, [], ◌∷◌, drop, slice_index, Option}
+use Rattle.std.specs.Prelude.{ℕ, ◌+◌, ◌/◌, ◌%◌, ◌^◌, max, Bool, ◌&&◌, ◌==◌, nat_lt, nat_le, if◌then◌else◌, List, [], ◌∷◌, take, drop, slice_index, Option}
 use Rattle.byteorder.specs.Endian.{little_number}
 use Rattle.apei_base.specs.Refusal.{first_of}
 use Rattle.apei_base.specs.declared.region.Space.{Space}
@@ -17,6 +17,10 @@ gas_of bytes = record {
   access = slice_index bytes 3;
   address = little_number 8 (drop 4 bytes);
 }
+
+-- the generic address in the 12 bytes at an offset (ACPI 6.5, 5.2.3.2)
+abbrev pub gas_at : ℕ → List ℕ → Gas
+gas_at offset bytes = gas_of (take 12 (drop offset bytes))
 
 -- how many bits from the lowest bit of the register its field ends (ACPI 6.5, 5.2.3.2)
 abbrev pub bits_needed : Gas → ℕ

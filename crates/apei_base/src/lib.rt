@@ -1,16 +1,28 @@
 //! What all tables of APEI (the ACPI Platform Error Interfaces) share: the common table header, generic
-//! addresses and the regions that they name. Bytes that break a rule are refused with the first reason in a
-//! fixed order; nothing is read or written outside the bytes that are given.
+//! addresses and the regions that they name, and the bus on which regions are read and written, with the
+//! memory of an error source as its firmware and its receiver share it. Bytes that break a rule are refused
+//! with the first reason in a fixed order; an access that fails changes nothing and is counted.
 #![tactic(auto)]
 
+mod attempts;
+mod bus;
 mod bytes;
+mod faulty;
+mod fields;
+mod firmware;
 mod gas;
+mod mem_bus;
 mod region;
 mod sdt;
 #[cfg(test)]
 mod tests;
 
+pub use bus::{Bus, BusFault};
 pub use bytes::Bytes;
+pub use faulty::Faulty;
+pub use fields::{gas_at, u16_at, u32_at, u64_at};
+pub use firmware::{Firmware, clear, copy_area, read_ack, read_status, write_ack};
 pub use gas::{Gas, GasError};
+pub use mem_bus::MemBus;
 pub use region::{Region, Space};
 pub use sdt::{Sdt, SdtError};

@@ -1,4 +1,4 @@
-ghost use Rattle.std.specs.Prelude.{◌≡◌, ◌↔◌, ℕ, ◌%◌, sum, drop, slice_index, IsOk, IfOk};
+ghost use Rattle.std.specs.Prelude.{◌≡◌, ◌<◌, ◌↔◌, ℕ, ◌%◌, ◌^◌, sum, length, drop, slice_index, IsOk, IfOk, OnOk};
 ghost use Rattle.std.specs.Result.{result_err};
 
 use byteorder::{ByteOrder, LittleEndian};
@@ -71,6 +71,7 @@ impl<'a> Sdt<'a> {
     pub fn read(bytes: &'a [u8], signature: &[u8; 4]) -> Result<Sdt<'a>, SdtError>
         ensures table { IsOk result ↔ IsTable signature.now bytes.now }
         ensures err { result_err result ≡ sdt_refusal signature.now bytes.now }
+        ensures small { OnOk result (length bytes.now < 2 ^ 32) }
         ensures revision { IfOk result (λ table. table.revision ≡ slice_index bytes.now 8) }
         ensures body { IfOk result (λ table. table.body.now ≡ drop 36 bytes.now) }
     {

@@ -1,3 +1,7 @@
+mod faulty;
+mod mem_bus;
+mod one_source;
+
 use crate::{Bytes, Gas, GasError, Region, Sdt, SdtError, Space};
 use hex::FromHex;
 use std::test::Fail;

@@ -1,14 +1,12 @@
 -- What a walk over the structures of a table says of the table.
-use Rattle.std.proofs.Common.{◌≡◌, ◌≤◌, ◌<◌, ℕ, ◌+◌, ◌^◌, ◌==◌, true, false, cond, List, [], length, drop, slice_index, nat_lt, codes, sym, ap, subst, ◌∙◌, arith, Some, None, Result, Ok, Err}
+use Rattle.std.proofs.Common.{◌≡◌, ◌≤◌, ◌<◌, ℕ, ◌+◌, ◌==◌, true, false, cond, List, [], length, drop, nat_lt, codes, sym, ap, subst, ◌∙◌, arith, Some, None, Result, Ok, Err}
 use Rattle.std.specs.Option.{option_or}
 use Rattle.std.specs.Result.{IsErrAnd}
-use Rattle.std.proofs.lemmas.List.{get_or-drop}
 use Rattle.std.proofs.lemmas.Bool.{le-ltb}
 use Rattle.std.proofs.lemmas.Bool.Decides.{nat_tests}
-use Rattle.byteorder.specs.Numbers.{little_from-lt}
 use Rattle.apei_base.specs.Cut.{joined}
 use Rattle.apei_base.specs.Number.{number_at}
-use Rattle.apei_base.specs.Table.{IsTable, sdt_refusal}
+use Rattle.apei_base.specs.Table.{sdt_refusal}
 use Rattle.apei_hest.specs.Refusal.{AreAccepted}
 use Rattle.apei_hest.specs.Hest.{refusal_at, counted, refused, answer_at, Walks, no_table, front_refusal, JudgedBy, Judges, HasCause, Reads}
 use Rattle.apei_hest.specs.Admitted.{IsWalked, StopsWith}
@@ -16,13 +14,6 @@ use Rattle.apei_hest.specs.declared.error.HestError.{HestError}
 use Rattle.apei_hest.specs.declared.error.HestError.TheVariants.{Truncated, CountMismatch}
 use Rattle.apei_hest.specs.declared.source.Source.{Source}
 use Rattle.apei_hest.proofs.WalkLemmas.{recaused}
-
--- a table states its length in four bytes
-pub table_is_small : (signature bytes : List ℕ) → ((i : ℕ) → slice_index bytes i < 256) → IsTable signature bytes → length bytes < 2 ^ 32
-table_is_small signature bytes fits table =
-    let behind : (i : ℕ) → slice_index (drop 4 bytes) i < 256 = λ i. rw (get_or-drop 4 bytes i 0) (fits (4 + i)) in
-    let below = little_from-lt 0 4 (drop 4 bytes) behind in
-    omega (arith, table.as_long)
 
 -- a table that has a count
 pub front_accepted : (bytes : List ℕ) → sdt_refusal (codes "HEST") bytes ≡ None → 40 ≤ length bytes → front_refusal bytes ≡ None

@@ -1,18 +1,16 @@
 -- A table is judged in one way, and an accepted one is its structures.
-use Rattle.std.proofs.Common.{◌≡◌, ◌≤◌, ◌↔◌, ℕ, ◌+◌, ◌==◌, nat_lt, Bool, true, false, cond, not, List, [], ◌∷◌, ◌++◌, length, take, drop, sum, ◌%◌, codes, refl, sym, ap, subst, ◌∙◌, arith, append_assoc, append-nil, Option, Some, None, Result, Ok, Err}
+use Rattle.std.proofs.Common.{◌≡◌, ◌≤◌, ◌↔◌, ℕ, ◌+◌, ◌==◌, nat_lt, Bool, true, false, cond, not, List, [], ◌∷◌, ◌++◌, length, take, drop, codes, refl, sym, ap, subst, ◌∙◌, arith, append_assoc, append-nil, Option, Some, None, Result, Ok, Err}
 use Rattle.std.specs.List.{AllByRecursion}
 use Rattle.std.specs.Option.{option_or}
-use Rattle.std.specs.Str.{bytes_eq}
-use Rattle.std.proofs.lemmas.Bool.{le-ltb, eqb-true, eq-eqb}
+use Rattle.std.proofs.lemmas.Bool.{le-ltb, eqb-true}
 use Rattle.std.proofs.lemmas.Bool.Decides.{nat_tests}
 use Rattle.std.proofs.Math.Dec.{eqb-suc-zero}
 use Rattle.std.proofs.lemmas.List.{length-append, take_at, drop_at}
-use Rattle.std.proofs.lemmas.Slice.Eq.{bytes_eq-Decides}
+use Rattle.apei_base.proofs.TableLemmas.{table_of, refusal_of_table}
 use Rattle.apei_base.specs.Cut.{joined, CutsInto}
 use Rattle.apei_base.specs.Number.{number_at}
-use Rattle.apei_base.specs.Table.{IsTable, stated_length, sdt_refusal}
+use Rattle.apei_base.specs.Table.{IsTable, sdt_refusal}
 use Rattle.apei_base.specs.declared.sdt.SdtError.{SdtError}
-use Rattle.apei_base.specs.declared.sdt.SdtError.TheVariants as sdt_errors
 use Rattle.apei_hest.specs.Structure.{IsStructure, structure_length, structure_at, length_refusal, structure_refusal}
 use Rattle.apei_hest.specs.Source.{source_of, sources_from}
 use Rattle.apei_hest.specs.Refusal.{source_refusal, AreAccepted}
@@ -124,42 +122,12 @@ not_met : (b : Bool) (error : HestError) → cond b (Some error) None ≡ None �
 not_met true error e = absurd (cc e)
 not_met false error e = refl
 
-not_met_of : (b : Bool) (error : SdtError) (later : Option SdtError) → cond b (Some error) later ≡ None → (b ≡ false) × (later ≡ None)
-not_met_of true error later e = absurd (cc e)
-not_met_of false error later e = (refl, e)
-
 not_false : (b : Bool) → not b ≡ false → b ≡ true
 not_false true e = refl
 not_false false e = absurd (cc e)
 
 pub above : (n m : ℕ) → nat_lt n m ≡ false → m ≤ n
 above n m e = grind (arith, nat_tests)
-
--- bytes that are not refused as a table are one
-pub table_of : (signature bytes : List ℕ) → sdt_refusal signature bytes ≡ None → IsTable signature bytes
-table_of signature bytes e =
-    let first = not_met_of (nat_lt (length bytes) 36) sdt_errors.Short _ e in
-    let second = not_met_of (not (bytes_eq (take 4 bytes) signature)) sdt_errors.Signature _ first.1 in
-    let third = not_met_of (not (stated_length bytes == length bytes)) sdt_errors.Length _ second.1 in
-    let fourth = not_met_of (not (sum bytes % 256 == 0)) sdt_errors.Checksum _ third.1 in
-    record {
-      whole = above (length bytes) 36 first.0;
-      signed = (bytes_eq-Decides (take 4 bytes) signature).0 (not_false (bytes_eq (take 4 bytes) signature) second.0);
-      as_long = eqb-true (stated_length bytes) (length bytes) (not_false (stated_length bytes == length bytes) third.0);
-      summed = eqb-true (sum bytes % 256) 0 (not_false (sum bytes % 256 == 0) fourth.0);
-    }
-
--- a test that is not met leaves what follows
-passes : (b : Bool) (error : SdtError) (later : Option SdtError) → b ≡ false → later ≡ None → cond b (Some error) later ≡ None
-passes b error later unmet none = ap (λ c. cond c (Some error) later) unmet ∙ none
-
--- a table is not refused as one
-pub refusal_of_table : (signature bytes : List ℕ) → IsTable signature bytes → sdt_refusal signature bytes ≡ None
-refusal_of_table signature bytes table =
-    passes (nat_lt (length bytes) 36) sdt_errors.Short _ (le-ltb (length bytes) 36 table.whole)
-    (passes (not (bytes_eq (take 4 bytes) signature)) sdt_errors.Signature _ (ap not ((bytes_eq-Decides (take 4 bytes) signature).1 table.signed))
-    (passes (not (stated_length bytes == length bytes)) sdt_errors.Length _ (ap not (eq-eqb (stated_length bytes) (length bytes) table.as_long))
-    (passes (not (sum bytes % 256 == 0)) sdt_errors.Checksum _ (ap not (eq-eqb (sum bytes % 256) 0 table.summed)) refl)))
 
 -- a count that accepts is right
 right_count : (b : Bool) (before found : List Source) (error : HestError) → cond b (Ok before) (Err error) ≡ Ok found → (b ≡ true) × (found ≡ before)

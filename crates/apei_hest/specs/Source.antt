@@ -1,18 +1,13 @@
 -- The fields of error source structures, each at its offset (ACPI 6.5, 18.3.2).
-use Rattle.std.specs.Prelude.{ℕ, not, ◌+◌, ◌==◌, if◌then◌else◌, List, [], ◌∷◌, length, take, drop, slice_index, Option, Some, None}
+use Rattle.std.specs.Prelude.{ℕ, not, ◌+◌, ◌==◌, if◌then◌else◌, List, [], ◌∷◌, length, drop, slice_index, Option, Some, None}
 use Rattle.apei_base.specs.Number.{number_at}
-use Rattle.apei_base.specs.Region.{gas_of}
-use Rattle.apei_base.specs.declared.gas.Gas.{Gas}
+use Rattle.apei_base.specs.Region.{gas_at}
 use Rattle.apei_hest.specs.Structure.{type_of}
 use Rattle.apei_hest.specs.declared.source.Ack2.{Ack2}
 use Rattle.apei_hest.specs.declared.source.Ghes.{Ghes}
 use Rattle.apei_hest.specs.declared.source.Notify.{Notify}
 use Rattle.apei_hest.specs.declared.source.Source.{Source}
 use Rattle.apei_hest.specs.declared.source.Source.TheVariants as sources
-
--- the generic address in the 12 bytes at an offset (ACPI 6.5, 5.2.3.2)
-abbrev pub gas_at : ℕ → List ℕ → Gas
-gas_at offset bytes = gas_of (take 12 (drop offset bytes))
 
 -- the notification structure, 28 bytes (ACPI 6.5, 18.3.2.9)
 abbrev pub notify_of : List ℕ → Notify

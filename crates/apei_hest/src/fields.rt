@@ -1,45 +1,9 @@
 //! The fields of a structure, each read at its offset.
-ghost use Rattle.std.specs.Prelude.{◌≡◌, ◌≤◌, ◌+◌, length};
-ghost use Rattle.apei_base.specs.Number.{number_at};
-ghost use Rattle.apei_hest.specs.Source.{gas_at, notify_of, ack_of, ghes_of};
+ghost use Rattle.std.specs.Prelude.{◌≡◌, ◌≤◌, length};
+ghost use Rattle.apei_hest.specs.Source.{notify_of, ack_of, ghes_of};
 
 use crate::{Ack2, Ghes, Notify};
-use apei_base::Gas;
-use byteorder::{ByteOrder, LittleEndian};
-
-/// The number in the two bytes at an offset.
-pub(crate) fn u16_at(bytes: &[u8], offset: usize) -> u16
-    requires { offset + 2 ≤ length bytes.now }
-    ensures { result ≡ number_at offset 2 bytes.now }
-{
-    LittleEndian::read_u16(&bytes[offset..])
-}
-
-/// The number in the four bytes at an offset.
-pub(crate) fn u32_at(bytes: &[u8], offset: usize) -> u32
-    requires { offset + 4 ≤ length bytes.now }
-    ensures { result ≡ number_at offset 4 bytes.now }
-{
-    LittleEndian::read_u32(&bytes[offset..])
-}
-
-// The number in the eight bytes at an offset.
-fn u64_at(bytes: &[u8], offset: usize) -> u64
-    requires { offset + 8 ≤ length bytes.now }
-    ensures { result ≡ number_at offset 8 bytes.now }
-{
-    LittleEndian::read_u64(&bytes[offset..])
-}
-
-// The generic address at an offset.
-fn gas_at(bytes: &[u8], offset: usize) -> Gas
-    requires { offset + 12 ≤ length bytes.now }
-    ensures { result ≡ gas_at offset bytes.now }
-{
-    let mut address = [0u8; 12];
-    address.copy_from_slice(&bytes[offset..offset + 12]);
-    Gas::read(&address)
-}
+use apei_base::{gas_at, u16_at, u32_at, u64_at};
 
 // The notification structure at the front of the bytes.
 fn notify_of(bytes: &[u8]) -> Notify

@@ -2,10 +2,9 @@ ghost use Rattle.std.specs.Prelude.{◌≡◌, ◌≤◌, ◌<◌, ◌^◌, leng
 ghost use Rattle.apei_hest.specs.Admitted.{Finds};
 
 use crate::admitted::Admitted;
-use crate::fields::u32_at;
 use crate::structure::whole_length;
 use crate::{HestError, Source};
-use apei_base::Sdt;
+use apei_base::{Sdt, u32_at};
 use std::alloc::Global;
 use std::marker::Model;
 

@@ -2,8 +2,8 @@ ghost use Rattle.std.specs.Prelude.{◌≡◌, ◌<◌, ◌^◌, length};
 ghost use Rattle.apei_hest.specs.Source.{source_of};
 ghost use Rattle.apei_hest.specs.Structure.{IsStructure};
 
-use crate::fields::{ack_of, ghes_of, u16_at};
-use apei_base::Gas;
+use crate::fields::{ack_of, ghes_of};
+use apei_base::{Gas, u16_at};
 
 /// One error source structure of a HEST.
 ///

@@ -4,7 +4,7 @@ ghost use Rattle.std.specs.Result.{result_err};
 ghost use Rattle.apei_hest.specs.Structure.{with_banks, structure_length, structure_refusal};
 
 use crate::HestError;
-use crate::fields::u16_at;
+use apei_base::u16_at;
 
 // The length with the banks, of 28 bytes each, whose count is the byte at an offset.
 fn with_banks(fixed: usize, offset: usize, bytes: &[u8]) -> usize

@@ -1,16 +1,13 @@
 -- The walk over the structures judges the table.
-use Rattle.std.proofs.Common.{◌≡◌, None, Err, length, drop, refl, arith, sym, ap, subst, ◌∙◌}
+use Rattle.std.proofs.Common.{◌≡◌, None, Err, length, drop, arith, sym, ap, subst, ◌∙◌}
 use Rattle.std.proofs.lemmas.List.{length-drop}
 use Rattle.apei_base.proofs.CutLemmas.{cuts_length}
 use Rattle.apei_base.specs.Number.{number_at}
 use Rattle.apei_hest.specs.Structure.{IsStructure}
 use Rattle.apei_hest.specs.Hest.{front_refusal, Judges}
 use Rattle.apei_hest.specs.declared.error.HestError.TheVariants.{CountMismatch}
-use Rattle.apei_hest.proofs.JudgeLemmas.{table_is_small, front_accepted, judges_accepted, judges_miscounted, reads_refused}
+use Rattle.apei_hest.proofs.JudgeLemmas.{front_accepted, judges_accepted, judges_miscounted, reads_refused}
 use Rattle.apei_hest.proofs.hest.Hest.read.Goals as goal
-
-pub walk-requires-clause-small : goal.walk-requires-clause-small
-walk-requires-clause-small c = table_is_small _ c.args.bytes.now (λ i. omega (arith, c.type_inv.bytes i)) (c.in_ok-read.ensures.table.0 refl)
 
 pub returns-in_err-walk : goal.returns-in_err-walk
 returns-in_err-walk c =
@@ -20,7 +17,7 @@ returns-in_err-walk c =
 pub overflow_cast-found : goal.overflow_cast-found
 overflow_cast-found c =
     let walked = c.in_ok-walk.ensures in
-    let small = table_is_small _ c.args.bytes.now (λ i. omega (arith, c.type_inv.bytes i)) (c.in_ok-read.ensures.table.0 refl) in
+    let small = c.in_ok-read.ensures.small in
     let size = cuts_length IsStructure (drop 40 c.args.bytes.now) walked.0 _ walked.1.cut in
     omega (arith, size, walked.1.few, length-drop 40 c.args.bytes.now, ap length c.into_sources-sources.ensures, c.len-found.ensures)
 

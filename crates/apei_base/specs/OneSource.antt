@@ -1,0 +1,32 @@
+-- The memory of one source, for tests of what is generic in `Firmware`.
+use Rattle.std.specs.Prelude.{◌≡◌, ℕ, ◌<◌, ◌^◌, Bool, List, Some}
+use Rattle.std.specs.List.{AllByRecursion, AllByRecursion-prop}
+use Rattle.std.proofs.Props.{props}
+use Rattle.apei_base.specs.Bus.{Access, Reach}
+use Rattle.apei_base.specs.Firmware.{Seen, IsAnswered, IsRaised, IsSound, after_access}
+
+-- what its parts mean: two registers, where its area begins and how long it is, and what firmware and receiver did
+-- (own choice)
+abbrev pub seen_by_parts : Reach → Reach → ℕ → ℕ → ℕ → List (List ℕ) → ℕ → Bool → Seen
+seen_by_parts status ack area room cell made acknowledged waits = record {
+  layout = record { status = status; area = area; room = room; ack = Some ack };
+  cell = cell;
+  made = made;
+  acknowledged = acknowledged;
+  waits = waits;
+  planned = 0;
+}
+
+-- it is sound, and each register is wide enough for what it holds (own choice)
+pub record IsWhole (seen : Seen) (cell_width : ℕ) : Type 0 where
+  pub sound : IsSound seen 0
+  pub status : seen.layout.area < 2 ^ seen.layout.status.width
+  pub cell : seen.cell < 2 ^ cell_width
+
+-- an access answers and leaves what its meaning says (own choice)
+abbrev pub IsPlainStep : Seen → Access → Seen → Type 0
+IsPlainStep before access after = IsAnswered access before × (after ≡ after_access access before)
+
+-- that all blocks are raised has one proof at most, as a ghost field has to
+pub raised_prop : (blocks : List (List ℕ)) → IsProp (AllByRecursion IsRaised blocks)
+raised_prop blocks = AllByRecursion-prop IsRaised (λ block. Prim.hlevel props) blocks

@@ -1,0 +1,94 @@
+//! The memory of one error source, and the accesses that its receiver makes there.
+ghost use Rattle.std.specs.Prelude.{◌≡◌, ◌<◌, ◌≤◌, ◌+◌, ◌%◌, ◌^◌, Some, is_some, length, IfOk, OnOk, OnErr, IsTrue};
+ghost use Rattle.apei_base.specs.Bus.{Access, Reads, Writes, Copies, reach_of};
+ghost use Rattle.apei_base.specs.Firmware.{Seen, status_value, area_bytes, standing, cleared, ack_written, after_access, IsAnswered, IsSound};
+
+use crate::{Bus, BusFault, Region};
+
+/// The memory of one error source, as firmware and receiver share it.
+///
+/// It has a status address register, an area where blocks stand one after another, and a read ack register where the
+/// source is of version 2.
+/// Source: ACPI 6.5, 18.3.2.7 and 18.3.2.8. That one write of 0 clears a block: After Linux 6.1, drivers/acpi/apei/ghes.c.
+pub trait Firmware: Bus {
+    /// What the memory means.
+    ghost seen: { Self → Seen };
+
+    /// It means the same in the same state.
+    ghost same: { (one other : Self) → Self.state one ≡ Self.state other → seen one ≡ seen other };
+
+    /// What an access answers, and what it leaves.
+    ghost moves: { (before after : Self) (access : Access) → Self.step (Self.state before) access (Self.state after)
+        → IsAnswered access (seen before) × (seen after ≡ after_access access (seen before)) };
+
+    /// What holds at all times.
+    ghost sound: { (port : Self) → IsSound (seen port) (Self.faults port) };
+}
+
+/// Reads the status address register: the address of the area, or 0 where no block has stood yet.
+pub fn read_status<P: Firmware>(port: &mut P, register: &Region) -> Result<u64, BusFault>
+    requires { reach_of register.now ≡ (P.seen port.old).layout.status }
+    ensures value { IfOk result (λ address. address ≡ status_value (P.seen port.old)) }
+    ensures kept { P.seen port.new ≡ P.seen port.old }
+    ensures cause { OnErr result (P.faults port.old < P.faults port.new) }
+    ensures unfailed { OnOk result (P.faults port.new ≡ P.faults port.old) }
+    ensures grows { P.faults port.old ≤ P.faults port.new }
+{
+    port.read(register)
+}
+
+/// Copies the area at `address` from `skip` on: what stands there of the block, followed by zeros.
+pub fn copy_area<P: Firmware>(
+    port: &mut P,
+    address: u64,
+    skip: usize,
+    into: &mut [u8],
+) -> Result<(), BusFault>
+    requires at { address ≡ (P.seen port.old).layout.area }
+    requires within { skip + length into.old ≤ (P.seen port.old).layout.room }
+    ensures copied { OnOk result (into.new ≡ area_bytes skip (length into.old) (P.seen port.old)) }
+    ensures err { OnErr result (into.new ≡ into.old) }
+    ensures kept { P.seen port.new ≡ P.seen port.old }
+    ensures cause { OnErr result (P.faults port.old < P.faults port.new) }
+    ensures unfailed { OnOk result (P.faults port.new ≡ P.faults port.old) }
+    ensures grows { P.faults port.old ≤ P.faults port.new }
+{
+    port.copy(address, skip, into)
+}
+
+/// Clears the block that stands in the area at `address`, by a 32-bit write of 0, and so acknowledges it.
+pub fn clear<P: Firmware>(port: &mut P, address: u64) -> Result<(), BusFault>
+    requires at { address ≡ (P.seen port.old).layout.area }
+    requires stands { IsTrue (is_some (standing (P.seen port.old))) }
+    ensures ok { OnOk result (P.seen port.new ≡ cleared (P.seen port.old)) }
+    ensures err { OnErr result (P.seen port.new ≡ P.seen port.old) }
+    ensures cause { OnErr result (P.faults port.old < P.faults port.new) }
+    ensures unfailed { OnOk result (P.faults port.new ≡ P.faults port.old) }
+    ensures grows { P.faults port.old ≤ P.faults port.new }
+{
+    port.write(&Region::memory(address, 32), 0)
+}
+
+/// Reads the read ack register.
+pub fn read_ack<P: Firmware>(port: &mut P, register: &Region) -> Result<u64, BusFault>
+    requires { Some (reach_of register.now) ≡ (P.seen port.old).layout.ack }
+    ensures value { IfOk result (λ cell. cell ≡ (P.seen port.old).cell) }
+    ensures kept { P.seen port.new ≡ P.seen port.old }
+    ensures cause { OnErr result (P.faults port.old < P.faults port.new) }
+    ensures unfailed { OnOk result (P.faults port.new ≡ P.faults port.old) }
+    ensures grows { P.faults port.old ≤ P.faults port.new }
+{
+    port.read(register)
+}
+
+/// Writes the low bits of a value to the read ack register, as many as it is wide.
+pub fn write_ack<P: Firmware>(port: &mut P, register: &Region, value: u64) -> Result<(), BusFault>
+    requires { Some (reach_of register.now) ≡ (P.seen port.old).layout.ack }
+    ensures ok { OnOk result (P.seen port.new ≡ ack_written (value % 2 ^ register.now.width) (P.seen port.old)) }
+    ensures err { OnErr result (P.seen port.new ≡ P.seen port.old) }
+    ensures cause { OnErr result (P.faults port.old < P.faults port.new) }
+    ensures unfailed { OnOk result (P.faults port.new ≡ P.faults port.old) }
+    ensures grows { P.faults port.old ≤ P.faults port.new }
+{
+    port.write(register, value)
+}
