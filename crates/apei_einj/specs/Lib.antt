@@ -1,0 +1,13 @@
+pub mod Action
+pub mod Anchor
+pub mod Determined
+pub mod Entry
+pub mod Injection
+pub mod Part
+pub mod Refusal
+pub mod Request
+pub mod Sound
+pub mod Table
+pub mod Text
+pub mod Trigger
+pub mod Walk

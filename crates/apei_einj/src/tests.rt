@@ -1,0 +1,195 @@
+// Tables by their bytes. The sample "injection" stands in docs/FORMATS.md.
+mod inject;
+mod machine;
+mod run;
+mod structure;
+mod trigger;
+
+use crate::{Einj, Entry};
+use apei_base::Gas;
+use std::alloc::Global;
+use std::test::Fail;
+
+// The headers of the sample: the common one, and the injection header.
+const HEADERS: &str = "45494e4a5001000001714748455352545245504c41593031010000004748455301000000\
+    300000000000000009000000";
+
+// Its nine entries, of the actions 0 to 8.
+const ENTRIES: &str = "0004000000000000000000000000000000000000000000000000000000000000\
+    01000000004000040000007e000000000000000000000000ffffffffffffffff\
+    02020000002000030800007e000000000000000000000000ffffffff00000000\
+    03000000002000030c00007e000000000000000000000000ffffffff00000000\
+    0404000000000000000000000000000000000000000000000000000000000000\
+    0503000001080001b2000000000000009a00000000000000ff00000000000000\
+    06010000002000031000007e0000000001000000000000000100000000000000\
+    07000000000801031000007e000000000000000000000000ff00000000000000\
+    08020000002000034000007e000000000000000000000000ffffffff00000000";
+
+// A second entry of action 3, which is like the one of the sample.
+const SECOND_3: &str = "03000000002000030c00007e000000000000000000000000ffffffff00000000";
+
+// An entry of action 9 whose instruction and register are unknown.
+const UNKNOWN: &str = "0907000005ffffffffffffffffffffff00000000000000000000000000000000";
+
+// Writes bytes at an offset, as far as there is room.
+fn put(bytes: &mut [u8], at: usize, value: &[u8]) {
+    let mut next = at;
+    for byte in value {
+        if next < bytes.len() {
+            bytes[next] = *byte;
+            next += 1;
+        }
+    }
+}
+
+// The sample with these bytes at an offset and this checksum.
+fn changed(alloc: Global, at: usize, value: &[u8], checksum: u8) -> Result<Vec<u8>, Fail> {
+    let mut bytes = hex::decode(alloc, HEADERS)?;
+    bytes.extend_from_slice(&hex::decode(alloc, ENTRIES)?)?;
+    put(&mut bytes, at, value);
+    put(&mut bytes, 9, &[checksum]);
+    Ok(bytes)
+}
+
+// The sample with a tenth entry behind its nine, and this checksum.
+fn with_tenth(alloc: Global, entry: &str, checksum: u8) -> Result<Vec<u8>, Fail> {
+    let mut bytes = changed(alloc, 44, &[10], checksum)?;
+    put(&mut bytes, 4, &[0x70]);
+    bytes.extend_from_slice(&hex::decode(alloc, entry)?)?;
+    Ok(bytes)
+}
+
+// The refusal of a table in words, or that it is accepted.
+fn told(alloc: Global, bytes: &[u8]) -> Result<String, Fail> {
+    match Einj::read(alloc, bytes) {
+        Ok(_) => Ok("accepted".to_string(alloc)?),
+        Err(error) => Ok(error.to_string(alloc)?),
+    }
+}
+
+// Where the anchor of an action begins.
+fn anchor_at(einj: &Einj, action: u8) -> Option<u32> {
+    Some(einj.anchor(action)?.at)
+}
+
+// Two entries of the sample, each with all its fields.
+const CHECK_BUSY: Entry = Entry {
+    at: 240,
+    action: 6,
+    instruction: 1,
+    flags: 0,
+    register: Gas {
+        space: 0,
+        bit_width: 32,
+        bit_offset: 0,
+        access: 3,
+        address: 0x7e00_0010,
+    },
+    value: 1,
+    mask: 1,
+};
+
+const EXECUTE: Entry = Entry {
+    at: 208,
+    action: 5,
+    instruction: 3,
+    flags: 0,
+    register: Gas {
+        space: 1,
+        bit_width: 8,
+        bit_offset: 0,
+        access: 1,
+        address: 0xb2,
+    },
+    value: 0x9a,
+    mask: 0xff,
+};
+
+#[test]
+fn the_sample_gives_its_entries(rt: HostRuntime) -> Result<(), Fail> {
+    let einj = Einj::read(rt.alloc(), &changed(rt.alloc(), 44, &[9], 0x71)?)?;
+    assert_eq!(rt; einj.entries().len(), 9);
+    assert_eq!(rt; einj.entries().get(5).copied(), Some(EXECUTE));
+    assert_eq!(rt; einj.entries().get(6).copied(), Some(CHECK_BUSY));
+    Ok(())
+}
+
+// Where the anchors of the sample begin, by their actions.
+const ANCHORS: [(u8, Option<u32>); 10] = [
+    (0, None),
+    (1, Some(80)),
+    (2, Some(112)),
+    (3, Some(144)),
+    (4, None),
+    (5, Some(208)),
+    (6, Some(240)),
+    (7, Some(272)),
+    (8, Some(304)),
+    (9, None),
+];
+
+#[test]
+fn each_action_of_the_sample_has_its_anchor(rt: HostRuntime) -> Result<(), Fail> {
+    let einj = Einj::read(rt.alloc(), &changed(rt.alloc(), 44, &[9], 0x71)?)?;
+    for (action, want) in &ANCHORS {
+        assert_eq!(rt; anchor_at(&einj, *action), *want, "of action {action}");
+    }
+    Ok(())
+}
+
+// What is changed in the sample: bytes at an offset, and the checksum; and what is told then.
+const CHANGED: [(&str, usize, &[u8], u8, &str); 13] = [
+    ("nothing", 44, &[9], 0x71, "accepted"),
+    ("checksum", 44, &[9], 0x72, "1 table: 4 checksum"),
+    ("header size 16", 36, &[16], 0x91, "2 header size"),
+    ("header size 12", 36, &[12], 0x95, "accepted"),
+    ("count 10", 44, &[10], 0x70, "3 count says 10, found 9"),
+    ("instruction 5", 49, &[5], 0x70, "4 instruction at 48"),
+    ("space 2", 148, &[2], 0x6f, "5 register at 144: 1 space"),
+    (
+        "no room for 36 bytes",
+        312,
+        &[0xe0, 0xff, 0xff, 0xff, 0xff, 0xff, 0xff, 0xff],
+        0x56,
+        "5 register at 304: 5 past end",
+    ),
+    (
+        "room for 36 bytes",
+        312,
+        &[0xdc, 0xff, 0xff, 0xff, 0xff, 0xff, 0xff, 0xff],
+        0x5a,
+        "accepted",
+    ),
+    ("no action 1", 80, &[9], 0x69, "6 missing action 1"),
+    ("no action 7", 272, &[9], 0x6f, "6 missing action 7"),
+    ("no action 2", 112, &[9], 0x6a, "accepted"),
+    ("no action 8", 304, &[9], 0x70, "accepted"),
+];
+
+#[test]
+fn a_changed_sample_is_refused_in_its_words(rt: HostRuntime) -> Result<(), Fail> {
+    for (name, at, value, checksum, want) in &CHANGED {
+        let bytes = changed(rt.alloc(), *at, value, *checksum)?;
+        let text = told(rt.alloc(), &bytes)?;
+        assert_eq!(rt; text.as_str(), *want, "{name}");
+    }
+    let bytes = changed(rt.alloc(), 44, &[9], 0x71)?;
+    let text = told(rt.alloc(), bytes.get(..35).unwrap_or(&[]))?;
+    assert_eq!(rt; text.as_str(), "1 table: 1 short");
+    Ok(())
+}
+
+#[test]
+fn the_first_of_two_entries_is_the_anchor(rt: HostRuntime) -> Result<(), Fail> {
+    let einj = Einj::read(rt.alloc(), &with_tenth(rt.alloc(), SECOND_3, 0xa4)?)?;
+    assert_eq!(rt; einj.entries().len(), 10);
+    assert_eq!(rt; anchor_at(&einj, 3), Some(144));
+    Ok(())
+}
+
+#[test]
+fn an_entry_of_another_action_is_passed_over(rt: HostRuntime) -> Result<(), Fail> {
+    let einj = Einj::read(rt.alloc(), &with_tenth(rt.alloc(), UNKNOWN, 0x46)?)?;
+    assert_eq!(rt; einj.entries().len(), 9);
+    Ok(())
+}

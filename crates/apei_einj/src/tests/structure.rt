@@ -1,0 +1,113 @@
+// The address structure that an injection writes, and how much of it stands where an access fails.
+use super::changed;
+use super::machine::{
+    Asked, DONE, ERROR_TYPE, EXECUTED, End, FIRST, IN_MEMORY, NOWHERE, machine, request,
+};
+use crate::{Einj, InjectError, Place};
+use apei_base::{Bus, Faulty, MemBus, Region, Space};
+use std::alloc::Global;
+use std::test::Fail;
+
+#[rattlefmt::skip]
+const VENDOR: Region = Region { space: Space::Memory, address: 0x7e00_0044, width: 32 };
+
+#[rattlefmt::skip]
+const FLAGS: Region = Region { space: Space::Memory, address: 0x7e00_0048, width: 32 };
+
+#[rattlefmt::skip]
+const PROCESSOR: Region = Region { space: Space::Memory, address: 0x7e00_004c, width: 32 };
+
+#[rattlefmt::skip]
+const ADDRESS: Region = Region { space: Space::Memory, address: 0x7e00_0050, width: 64 };
+
+#[rattlefmt::skip]
+const MASK: Region = Region { space: Space::Memory, address: 0x7e00_0058, width: 64 };
+
+#[rattlefmt::skip]
+const PCIE: Region = Region { space: Space::Memory, address: 0x7e00_0060, width: 32 };
+
+const WORDS: [Region; 7] = [ERROR_TYPE, VENDOR, FLAGS, PROCESSOR, ADDRESS, MASK, PCIE];
+
+// What each word holds before, by its width, so that a 0 that is written shows.
+const HELD: u64 = 0xeeee_eeee;
+
+const HELD_LONG: u64 = 0xeeee_eeee_eeee_eeee;
+
+// The machine with its address structure full of this.
+fn full(alloc: Global) -> Result<MemBus, Fail> {
+    let mut bus = machine(alloc)?;
+    for word in &WORDS {
+        bus.write(word, HELD_LONG)?;
+    }
+    Ok(bus)
+}
+
+// The words of the address structure behind an injection.
+fn words(alloc: Global, einj: &Einj, asked: Asked) -> Result<[u64; 7], Fail> {
+    let mut bus = full(alloc)?;
+    einj.inject(&request(asked)?, &mut bus)?;
+    let mut words = [0; 7];
+    for index in 0..7usize {
+        words[index] = bus.read(&WORDS[index])?;
+    }
+    Ok(words)
+}
+
+// The words of each place. The vendor's offset is not written. The PCIe function is that of segment 0xa5, bus 0x17,
+// device 3 and function 2.
+#[rattlefmt::skip]
+const PLACES: [(Asked, [u64; 7]); 4] = [
+    (IN_MEMORY, [8, HELD, 2, 0, 0x12_3456_7000, 0xffff_ffff_ffff_f000, 0]),
+    ((1, Place::Processor(0xfedc_ba98)), [1, HELD, 1, 0xfedc_ba98, 0, 0, 0]),
+    ((0x40, Place::Pcie(0xa517_1a00)), [0x40, HELD, 4, 0, 0, 0, 0xa517_1a00]),
+    (NOWHERE, [8, HELD, 0, 0, 0, 0, 0]),
+];
+
+#[test]
+fn each_place_has_its_words_in_the_address_structure(rt: HostRuntime) -> Result<(), Fail> {
+    let einj = Einj::read(rt.alloc(), &changed(rt.alloc(), 44, &[9], 0x71)?)?;
+    for (asked, want) in &PLACES {
+        let told = words(rt.alloc(), &einj, *asked)?;
+        assert_eq!(rt; told, *want, "{asked:?}");
+    }
+    Ok(())
+}
+
+// The writes of an injection: which access each is, what its region held, and what it holds then.
+const WRITES: [(u64, Region, u64, u64); 8] = [
+    (2, ERROR_TYPE, HELD, 8),
+    (3, FLAGS, HELD, 2),
+    (4, PROCESSOR, HELD, 0),
+    (5, ADDRESS, HELD_LONG, 0x12_3456_7000),
+    (6, MASK, HELD_LONG, 0xffff_ffff_ffff_f000),
+    (7, PCIE, HELD, 0),
+    (8, EXECUTED, 0, 0x9a),
+    (14, FIRST, 0, 1),
+];
+
+// What an injection ends with where the access of a number fails, how many there were, and the machine then.
+fn cut_off(alloc: Global, einj: &Einj, number: u64) -> Result<(End, u64, MemBus), Fail> {
+    let mut bus = Faulty::new(alloc, full(alloc)?, &[number])?;
+    let end = einj.inject(&request(IN_MEMORY)?, &mut bus);
+    Ok((end, bus.accesses(), bus.into_inner()))
+}
+
+#[test]
+fn an_injection_is_cut_off_at_the_access_that_fails(rt: HostRuntime) -> Result<(), Fail> {
+    let einj = Einj::read(rt.alloc(), &changed(rt.alloc(), 44, &[9], 0x71)?)?;
+    for number in 1..16 {
+        let (end, accesses, mut bus) = cut_off(rt.alloc(), &einj, number)?;
+        let want = if number < 15 {
+            Err(InjectError::Fault)
+        } else {
+            DONE
+        };
+        assert_eq!(rt; end, want, "at {number}");
+        assert_eq!(rt; accesses, number.min(14), "at {number}");
+        for (at, region, before, after) in &WRITES {
+            let want = if *at < number { *after } else { *before };
+            assert_eq!(rt; bus.read(region)?, want, "at {number}: {at}");
+        }
+    }
+    Ok(())
+}
