@@ -36,8 +36,8 @@ impl Header {
         }
     }
 
-    // How long the block is, in bytes.
-    fn block_length(&self) -> u64
+    /// How long the block is in bytes, by its header alone, under no limit.
+    pub fn block_length(&self) -> u64
         ensures { result ≡ block_length self.now }
     {
         if self.raw_length == 0 {

@@ -11,10 +11,11 @@ use Rattle.ghes_replay.proofs.LoadLemmas.{loads_weaker}
 -- the cause of a refused task is one of the words
 cause_of : (words : List (List ℕ)) (before after : FilesSeen) (task : Task) (refusal : Refusal) → IsTask words task → TaskCause before after task refusal → Cause words before after refusal
 cause_of words before after (Replay hest script) refusals.Usage asked cause = absurd cause
-cause_of words before after (Check hest) refusals.Usage asked cause = absurd cause
+cause_of words before after (Check hest einj) refusals.Usage asked cause = absurd cause
 cause_of words before after (Decode block) refusals.Usage asked cause = absurd cause
 cause_of words before after task (refusals.Load file why) asked cause = (task, asked, cause)
 cause_of words before after task (refusals.Hest error) asked cause = (task, asked, cause)
+cause_of words before after task (refusals.Einj error) asked cause = (task, asked, cause)
 cause_of words before after task refusals.NotBuilt asked cause = (task, asked, cause)
 cause_of words before after task (refusals.Script line) asked cause = (task, asked, cause)
 cause_of words before after task refusals.OutOfMemory asked cause = tt

@@ -10,12 +10,16 @@ pub mod ImageLemmas
 pub mod KeptSteps
 pub mod LawfulEnd
 pub mod LawfulSteps
+pub mod ListingLemmas
 pub mod LoadLemmas
 pub mod OneHistory
+pub mod PrintLemmas
 pub mod PutLemmas
 pub mod RunLemmas
 pub mod Running
 pub mod ServedLemmas
 pub mod SoundLemmas
+pub mod TaskLemmas
+pub mod ToldLemmas
 pub mod ToldSteps
 pub mod WordLemmas

@@ -9,6 +9,7 @@ use Rattle.apei_hest.specs.declared.source.Ghes.{Ghes}
 use Rattle.ghes_replay.specs.declared.exit.InputFile.TheVariants as files
 use Rattle.ghes_replay.specs.Decode.{LoadsBlock}
 use Rattle.ghes_replay.specs.Seen.{FilesSeen, Loads, table_limit, script_limit, block_limit}
+use Rattle.ghes_replay.specs.Listing.{LoadsEinj}
 use Rattle.ghes_replay.specs.Loading.{LoadsHest, LoadsScript, load_refusal}
 
 -- no new name
@@ -41,6 +42,11 @@ pub hest_not_loaded : (before after : FilesSeen) (name : List ℕ) (why : LoadEr
 hest_not_loaded before after name loads.Failed f = record { loads = loads_by _ _ _ _ loads.Failed f; found = tt; unfailed = tt; refused = (f.failed refl, f.names) }
 hest_not_loaded before after name loads.TooLong f = record { loads = loads_by _ _ _ _ loads.TooLong f; found = tt; unfailed = tt; refused = f.too_long refl }
 hest_not_loaded before after name loads.OutOfMemory f = record { loads = loads_by _ _ _ _ loads.OutOfMemory f; found = tt; unfailed = tt; refused = tt }
+
+pub einj_not_loaded : (before after : FilesSeen) (name : List ℕ) (why : LoadError) → FailedLoad before after name table_limit why → LoadsEinj before after name (Err (load_refusal files.Einj why))
+einj_not_loaded before after name loads.Failed f = record { loads = loads_by _ _ _ _ loads.Failed f; found = tt; refused = (f.failed refl, f.names) }
+einj_not_loaded before after name loads.TooLong f = record { loads = loads_by _ _ _ _ loads.TooLong f; found = tt; refused = f.too_long refl }
+einj_not_loaded before after name loads.OutOfMemory f = record { loads = loads_by _ _ _ _ loads.OutOfMemory f; found = tt; refused = tt }
 
 pub script_not_loaded : (before after : FilesSeen) (name : List ℕ) (ghes : Ghes) (why : LoadError) → FailedLoad before after name script_limit why → LoadsScript before after name ghes (Err (load_refusal files.Script why))
 script_not_loaded before after name ghes loads.Failed f = record { loads = loads_by _ _ _ _ loads.Failed f; found = tt; few = tt; refused = (f.failed refl, f.names) }

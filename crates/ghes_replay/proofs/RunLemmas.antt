@@ -32,7 +32,7 @@ all_of_first id number bytes [] spells = tt
 all_of_first id number bytes (line ∷ lines) (text, rest, first, numbered, asks, more) = (line_of_first id line.what text asks, all_of_first id (number + 1) rest lines more)
 
 -- what is loaded later is what is told before
-loaded_earlier : (before middle : FilesSeen) (name : List ℕ) (limit : ℕ) (bytes : List ℕ) → middle.contents name ≡ before.contents name → IsLoaded middle name limit bytes → IsLoaded before name limit bytes
+pub loaded_earlier : (before middle : FilesSeen) (name : List ℕ) (limit : ℕ) (bytes : List ℕ) → middle.contents name ≡ before.contents name → IsLoaded middle name limit bytes → IsLoaded before name limit bytes
 loaded_earlier before middle name limit bytes same l =
     let P : Option (List ℕ) → Type 0 = λ told. Agrees told bytes in
     record { told = subst P same l.told; within = l.within }
@@ -47,6 +47,8 @@ cause_earlier before middle after name ghes (refusals.Load files.Script loads.To
 cause_earlier before middle after name ghes (refusals.Load files.Script loads.OutOfMemory) same grows unfailed cause = cause
 cause_earlier before middle after name ghes (refusals.Load files.Hest why) same grows unfailed cause = cause
 cause_earlier before middle after name ghes (refusals.Load files.Block why) same grows unfailed cause = cause
+cause_earlier before middle after name ghes (refusals.Load files.Einj why) same grows unfailed cause = cause
+cause_earlier before middle after name ghes (refusals.Einj error) same grows unfailed cause = cause
 cause_earlier before middle after name ghes (refusals.Hest error) same grows unfailed cause = cause
 cause_earlier before middle after name ghes refusals.NotBuilt same grows unfailed cause = cause
 cause_earlier before middle after name ghes (refusals.Script line) same grows unfailed cause =
@@ -65,6 +67,8 @@ cause_of_script : (before after : FilesSeen) (hest script : List ℕ) (ghes : Gh
 cause_of_script before after hest script ghes (refusals.Load files.Script why) table cause = (ghes, table, cause)
 cause_of_script before after hest script ghes (refusals.Load files.Hest why) table cause = absurd cause
 cause_of_script before after hest script ghes (refusals.Load files.Block why) table cause = absurd cause
+cause_of_script before after hest script ghes (refusals.Load files.Einj why) table cause = absurd cause
+cause_of_script before after hest script ghes (refusals.Einj error) table cause = absurd cause
 cause_of_script before after hest script ghes (refusals.Hest error) table cause = absurd cause
 cause_of_script before after hest script ghes refusals.NotBuilt table cause = absurd cause
 cause_of_script before after hest script ghes (refusals.Script line) table cause = (ghes, table, cause)
@@ -104,6 +108,7 @@ replay_goes before middle after hest script ghes lines (Err refusals.OutOfMemory
 replay_goes before middle after hest script ghes lines (Err refusals.Usage) table loaded runs = absurd runs
 replay_goes before middle after hest script ghes lines (Err (refusals.Load file why)) table loaded runs = absurd runs
 replay_goes before middle after hest script ghes lines (Err (refusals.Hest error)) table loaded runs = absurd runs
+replay_goes before middle after hest script ghes lines (Err (refusals.Einj error)) table loaded runs = absurd runs
 replay_goes before middle after hest script ghes lines (Err refusals.NotBuilt) table loaded runs = absurd runs
 replay_goes before middle after hest script ghes lines (Err (refusals.Script line)) table loaded runs = absurd runs
 
@@ -112,6 +117,8 @@ source_cause : (before after : FilesSeen) (hest script : List ℕ) (refusal : Re
 source_cause before after hest script (refusals.Load files.Hest why) cause = cause
 source_cause before after hest script (refusals.Load files.Script why) cause = absurd cause
 source_cause before after hest script (refusals.Load files.Block why) cause = absurd cause
+source_cause before after hest script (refusals.Load files.Einj why) cause = absurd cause
+source_cause before after hest script (refusals.Einj error) cause = absurd cause
 source_cause before after hest script (refusals.Hest error) cause = cause
 source_cause before after hest script refusals.NotBuilt cause = absurd cause
 source_cause before after hest script (refusals.Script line) cause = absurd cause

@@ -1,7 +1,8 @@
--- The listing of a table (own choice).
-use Rattle.std.specs.Prelude.{ℕ, Bool, true, false, is_some, List, ◌++◌, length, codes}
+-- The listing of a table and an injection table (own choice).
+use Rattle.std.specs.Prelude.{ℕ, Bool, true, false, is_some, List, ◌++◌, length, codes, Option, Some, None}
 use Rattle.std.specs.List.{flat_map}
 use Rattle.std.specs.Fmt.{decimal}
+use Rattle.apei_einj.specs.declared.entry.Entry.{Entry}
 use Rattle.apei_hest.specs.declared.source.Ghes.{Ghes}
 use Rattle.apei_hest.specs.declared.source.Source.{Source}
 use Rattle.apei_hest.specs.declared.source.Source.TheVariants as sources
@@ -33,6 +34,16 @@ source_text (sources.Ghes ghes) = ghes_line (form_text (is_some ghes.ack) ghes.e
 unfoldable pub hest_count_line : ℕ → List ℕ
 hest_count_line count = codes "hest: " ++ decimal count ++ codes " sources\n"
 
--- The listing of a table without an injection table: how many sources it has, a line for each, and that there is none.
-abbrev pub check_text : List Source → List ℕ
-check_text found = hest_count_line (length found) ++ (flat_map source_text found ++ codes "einj: none\n")
+-- the line of an injection table, by how many entries it has
+unfoldable pub einj_count_line : ℕ → List ℕ
+einj_count_line count = codes "einj: " ++ decimal count ++ codes " entries\n"
+
+-- the line of an injection table, by its entries, or that there is none
+abbrev pub injection_line : Option (List Entry) → List ℕ
+injection_line None = codes "einj: none\n"
+injection_line (Some entries) = einj_count_line (length entries)
+
+-- The listing of a table: how many sources it has, a line for each, and the line of the injection table.
+abbrev pub check_text : List Source → Option (List Entry) → List ℕ
+check_text found injection =
+    hest_count_line (length found) ++ (flat_map source_text found ++ injection_line injection)

@@ -8,6 +8,7 @@ pub mod History
 pub mod Image
 pub mod Kept
 pub mod Lawful
+pub mod Listing
 pub mod Loading
 pub mod Queue
 pub mod Refusal

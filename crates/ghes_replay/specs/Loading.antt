@@ -34,8 +34,10 @@ HestCause before after name (refusals.Load files.Hest loads.TooLong) = IsLonger 
 HestCause before after name (refusals.Load files.Hest loads.OutOfMemory) = ⊥
 HestCause before after name (refusals.Load files.Script why) = ⊥
 HestCause before after name (refusals.Load files.Block why) = ⊥
+HestCause before after name (refusals.Load files.Einj why) = ⊥
 HestCause before after name (refusals.Hest error) = (bytes : List ℕ) × IsLoaded before name table_limit bytes × Judges bytes (Err error)
 HestCause before after name refusals.NotBuilt = ⊥
+HestCause before after name (refusals.Einj error) = ⊥
 HestCause before after name (refusals.Script line) = ⊥
 HestCause before after name refusals.Usage = ⊥
 HestCause before after name refusals.OutOfMemory = Unit {0}
@@ -47,8 +49,10 @@ ScriptCause before after name ghes (refusals.Load files.Script loads.TooLong) = 
 ScriptCause before after name ghes (refusals.Load files.Script loads.OutOfMemory) = ⊥
 ScriptCause before after name ghes (refusals.Load files.Hest why) = ⊥
 ScriptCause before after name ghes (refusals.Load files.Block why) = ⊥
+ScriptCause before after name ghes (refusals.Load files.Einj why) = ⊥
 ScriptCause before after name ghes (refusals.Hest error) = ⊥
 ScriptCause before after name ghes refusals.NotBuilt = ⊥
+ScriptCause before after name ghes (refusals.Einj error) = ⊥
 ScriptCause before after name ghes (refusals.Script line) = (bytes : List ℕ) × IsLoaded before name script_limit bytes × IsRefusedAt ghes.id bytes line
 ScriptCause before after name ghes refusals.Usage = ⊥
 ScriptCause before after name ghes refusals.OutOfMemory = Unit {0}
@@ -59,6 +63,7 @@ ReadsHest bytes (Ok found) = Judges bytes (Ok found)
 ReadsHest bytes (Err (refusals.Hest error)) = Judges bytes (Err error)
 ReadsHest bytes (Err refusals.OutOfMemory) = Unit {0}
 ReadsHest bytes (Err refusals.NotBuilt) = ⊥
+ReadsHest bytes (Err (refusals.Einj error)) = ⊥
 ReadsHest bytes (Err refusals.Usage) = ⊥
 ReadsHest bytes (Err (refusals.Load file why)) = ⊥
 ReadsHest bytes (Err (refusals.Script line)) = ⊥
@@ -72,6 +77,7 @@ ReadsLines id bytes (Err refusals.Usage) = ⊥
 ReadsLines id bytes (Err (refusals.Load file why)) = ⊥
 ReadsLines id bytes (Err (refusals.Hest error)) = ⊥
 ReadsLines id bytes (Err refusals.NotBuilt) = ⊥
+ReadsLines id bytes (Err (refusals.Einj error)) = ⊥
 
 -- the refusal for a file that was not loaded
 abbrev pub load_refusal : InputFile → LoadError → Refusal

@@ -1,6 +1,7 @@
 -- Refusals of a run: the status and the line of each (own choice).
 use Rattle.std.specs.Prelude.{ℕ, List, [], ◌++◌, codes, slice_get, unwrap_or}
 use Rattle.std.specs.Fmt.{decimal}
+use Rattle.apei_einj.specs.Text.{einj_error_text}
 use Rattle.apei_hest.specs.Text.{hest_error_text}
 use Rattle.ghes_outside.specs.declared.files.LoadError.{LoadError}
 use Rattle.ghes_outside.specs.declared.files.LoadError.TheVariants as loads
@@ -16,13 +17,16 @@ abbrev pub status_of : Refusal → ℕ
 status_of refusals.Usage = 2
 status_of (refusals.Hest error) = 3
 status_of refusals.NotBuilt = 3
+status_of (refusals.Einj error) = 3
 status_of (refusals.Script line) = 4
 status_of (refusals.Load file why) = 5
 status_of refusals.OutOfMemory = 7
 
--- the word that names a file: the table or the block is word 1 and the script word 3, counted from 0
+-- the word that names a file: the table or the block is word 1, the injection table word 2 and the script word 3, counted
+-- from 0
 abbrev pub file_name : List (List ℕ) → InputFile → List ℕ
 file_name words files.Hest = unwrap_or (slice_get words 1) []
+file_name words files.Einj = unwrap_or (slice_get words 2) []
 file_name words files.Script = unwrap_or (slice_get words 3) []
 file_name words files.Block = unwrap_or (slice_get words 1) []
 
@@ -44,6 +48,10 @@ load_line name why = codes "ghes: read " ++ name ++ codes ": " ++ why ++ codes "
 unfoldable pub hest_line : List ℕ → List ℕ
 hest_line reason = codes "ghes: hest: " ++ reason ++ codes "\n"
 
+-- the line for a refused injection table
+unfoldable pub einj_line : List ℕ → List ℕ
+einj_line reason = codes "ghes: einj: " ++ reason ++ codes "\n"
+
 -- the line for a refused script, by its first bad line
 unfoldable pub script_line : BadLine → List ℕ
 script_line at = codes "ghes: script: line " ++ decimal at.line ++ codes ": " ++ kind_text at.kind ++ codes "\n"
@@ -62,6 +70,7 @@ line_of name refusals.Usage = usage_line
 line_of name (refusals.Load file why) = load_line name (load_error_text why)
 line_of name (refusals.Hest error) = hest_line (hest_error_text error)
 line_of name refusals.NotBuilt = not_built_line
+line_of name (refusals.Einj error) = einj_line (einj_error_text error)
 line_of name (refusals.Script line) = script_line line
 line_of name refusals.OutOfMemory = memory_line
 
@@ -71,5 +80,6 @@ refused_word words (refusals.Load file why) = file_name words file
 refused_word words refusals.Usage = []
 refused_word words (refusals.Hest error) = file_name words files.Hest
 refused_word words refusals.NotBuilt = file_name words files.Hest
+refused_word words (refusals.Einj error) = file_name words files.Einj
 refused_word words (refusals.Script line) = file_name words files.Script
 refused_word words refusals.OutOfMemory = []

@@ -8,7 +8,6 @@ use Rattle.ghes_script.specs.declared.line.Line.{Line}
 use Rattle.ghes_replay.specs.declared.exit.InputFile.TheVariants as files
 use Rattle.ghes_replay.specs.declared.exit.Refusal.{Refusal}
 use Rattle.ghes_replay.specs.declared.exit.Refusal.TheVariants as refusals
-use Rattle.ghes_replay.specs.Check.{check_text}
 use Rattle.ghes_replay.specs.Decode.{IsDecoded, DecodeCause}
 use Rattle.ghes_replay.specs.History.{Step}
 use Rattle.ghes_replay.specs.Image.{limit_of}
@@ -20,6 +19,7 @@ use Rattle.ghes_replay.specs.Seen.{FilesSeen, SinkSeen, Loads}
 use Rattle.ghes_replay.specs.Served.{served}
 use Rattle.ghes_replay.specs.Task.{Task, Replay, Check, Decode, IsTask, IsFileOf, IsFileWord}
 use Rattle.ghes_replay.specs.Loading.{HasHest, HasTable, HasScript, HestCause, ScriptCause}
+use Rattle.ghes_replay.specs.Listing.{IsChecked, CheckCause}
 
 -- The two files were replayed: the ledger is lawful for the lines of the script, and the text is the text of that ledger.
 pub record IsReplayed (seen : FilesSeen) (hest script : List ℕ) (ledger : Kept) (text : List ℕ) : Type 0 where
@@ -31,16 +31,12 @@ pub record IsReplayed (seen : FilesSeen) (hest script : List ℕ) (ledger : Kept
   pub lawful : IsLawful (limit_of ghes) lines ledger history
   pub told : text ≡ replay_text ghes.id ledger history
 
--- the table was listed: it is accepted, and the text is the listing of its sources
-abbrev pub IsChecked : FilesSeen → List ℕ → List ℕ → Type 0
-IsChecked seen hest text = (found : List Source) × HasHest seen hest found × (text ≡ check_text found)
-
 -- the task was done, with this ledger, which a replay alone has, and this text
 abbrev pub IsDone : FilesSeen → Task → Option Kept → List ℕ → Type 0
 IsDone before (Replay hest script) (Some ledger) text = IsReplayed before hest script ledger text
 IsDone before (Replay hest script) None text = ⊥
-IsDone before (Check hest) (Some ledger) text = ⊥
-IsDone before (Check hest) None text = IsChecked before hest text
+IsDone before (Check hest einj) (Some ledger) text = ⊥
+IsDone before (Check hest einj) None text = IsChecked before hest einj text
 IsDone before (Decode block) (Some ledger) text = ⊥
 IsDone before (Decode block) None text = IsDecoded before block text
 
@@ -53,6 +49,8 @@ ReplayCause before after hest script refusals.NotBuilt = (found : List Source) �
 ReplayCause before after hest script (refusals.Load files.Script why) = (ghes : Ghes) × HasTable before hest ghes × ScriptCause before after script ghes (refusals.Load files.Script why)
 ReplayCause before after hest script (refusals.Script line) = (ghes : Ghes) × HasTable before hest ghes × ScriptCause before after script ghes (refusals.Script line)
 ReplayCause before after hest script (refusals.Load files.Block why) = ⊥
+ReplayCause before after hest script (refusals.Load files.Einj why) = ⊥
+ReplayCause before after hest script (refusals.Einj error) = ⊥
 ReplayCause before after hest script refusals.Usage = ⊥
 ReplayCause before after hest script refusals.OutOfMemory = Unit {0}
 
@@ -66,7 +64,7 @@ pub record LoadsSource (before after : FilesSeen) (hest : List ℕ) (result : Re
 -- why a task is refused
 abbrev pub TaskCause : FilesSeen → FilesSeen → Task → Refusal → Type 0
 TaskCause before after (Replay hest script) refusal = ReplayCause before after hest script refusal
-TaskCause before after (Check hest) refusal = HestCause before after hest refusal
+TaskCause before after (Check hest einj) refusal = CheckCause before after hest einj refusal
 TaskCause before after (Decode block) refusal = DecodeCause before after block refusal
 
 -- what a replay of lines answers, by its ledger and its text
@@ -79,6 +77,7 @@ RunsLines ghes lines (Err refusals.Usage) = ⊥
 RunsLines ghes lines (Err (refusals.Load file why)) = ⊥
 RunsLines ghes lines (Err (refusals.Hest error)) = ⊥
 RunsLines ghes lines (Err refusals.NotBuilt) = ⊥
+RunsLines ghes lines (Err (refusals.Einj error)) = ⊥
 RunsLines ghes lines (Err (refusals.Script line)) = ⊥
 
 -- what a task answers, by its ledger and its text
@@ -96,6 +95,7 @@ abbrev pub Cause : List (List ℕ) → FilesSeen → FilesSeen → Refusal → T
 Cause words before after refusals.Usage = (task : Task) → IsTask words task → ⊥
 Cause words before after (refusals.Load file why) = InTask words (λ task. TaskCause before after task (refusals.Load file why))
 Cause words before after (refusals.Hest error) = InTask words (λ task. TaskCause before after task (refusals.Hest error))
+Cause words before after (refusals.Einj error) = InTask words (λ task. TaskCause before after task (refusals.Einj error))
 Cause words before after refusals.NotBuilt = InTask words (λ task. TaskCause before after task refusals.NotBuilt)
 Cause words before after (refusals.Script line) = InTask words (λ task. TaskCause before after task (refusals.Script line))
 Cause words before after refusals.OutOfMemory = Unit {0}
@@ -140,7 +140,7 @@ is_status status = (status == 0) || (status == 1) || (status == 2) || (status ==
 
 -- the statuses of a listing
 abbrev pub is_check_status : ℕ → Bool
-is_check_status status = (status == 0) || (status == 2) || (status == 3) || (status == 5) || (status == 6) || (status == 7)
+is_check_status status = (status == 0) || (status == 3) || (status == 5) || (status == 6) || (status == 7)
 
 -- the statuses of a block's text
 abbrev pub is_decode_status : ℕ → Bool

@@ -1,24 +1,29 @@
 -- What the words of the command line ask for.
-use Rattle.std.specs.Prelude.{◌≡◌, ◌⊎◌, ℕ, List, [], ◌∷◌, codes}
+use Rattle.std.specs.Prelude.{◌≡◌, ◌≢◌, ◌⊎◌, ℕ, List, [], ◌∷◌, codes}
 use Rattle.ghes_replay.specs.declared.task.Task.{Task as Words}
 use Rattle.ghes_replay.specs.declared.task.Task.TheVariants as words
 
--- a replay of a script on a table, the listing of a table, or the text of a block, by the names of their files
+-- a replay of a script on a table, the listing of a table and an injection table, or the text of a block, by the names of
+-- their files; `-` stands for no injection table (own choice)
 pub data Task : Type 0 where
   Replay : List ℕ → List ℕ → Task
-  Check : List ℕ → Task
+  Check : List ℕ → List ℕ → Task
   Decode : List ℕ → Task
 
--- the words ask for this; `-` stands for no injection table
+-- the words ask for this; a replay takes `-` alone as its injection table (own choice)
 abbrev pub IsTask : List (List ℕ) → Task → Type 0
 IsTask words (Replay hest script) = words ≡ codes "replay" ∷ hest ∷ codes "-" ∷ script ∷ []
-IsTask words (Check hest) = words ≡ codes "check" ∷ hest ∷ codes "-" ∷ []
+IsTask words (Check hest einj) = words ≡ codes "check" ∷ hest ∷ einj ∷ []
 IsTask words (Decode block) = words ≡ codes "decode" ∷ block ∷ []
 
--- the name of a file that is read for it
+-- the word names an injection table (own choice)
+abbrev pub IsEinjName : List ℕ → Type 0
+IsEinjName einj = einj ≢ codes "-"
+
+-- the name of a file that is read for it (own choice)
 abbrev pub IsFileOf : Task → List ℕ → Type 0
 IsFileOf (Replay hest script) name = (name ≡ hest) ⊎ (name ≡ script)
-IsFileOf (Check hest) name = name ≡ hest
+IsFileOf (Check hest einj) name = (name ≡ hest) ⊎ ((name ≡ einj) × IsEinjName einj)
 IsFileOf (Decode block) name = name ≡ block
 
 -- a word of the command line that stands for a file
@@ -28,5 +33,5 @@ IsFileWord words name = (task : Task) × IsTask words task × IsFileOf task name
 -- a task without where its names lie in memory
 abbrev pub task_seen : Words → Task
 task_seen (words.Replay hest script) = Replay hest.now script.now
-task_seen (words.Check hest) = Check hest.now
+task_seen (words.Check hest einj) = Check hest.now einj.now
 task_seen (words.Decode block) = Decode block.now

@@ -1,5 +1,7 @@
 -- Runs whose files are told, and what they are then bound to answer.
-use Rattle.std.specs.Prelude.{◌≡◌, ◌≤◌, ℕ, List, length, Some, None, Ok, Err}
+use Rattle.std.specs.Prelude.{◌≡◌, ◌≤◌, ◌⊎◌, ℕ, List, length, codes, Some, None, Ok, Err}
+use Rattle.apei_einj.specs.Table.{einj_refusal}
+use Rattle.apei_einj.specs.declared.error.EinjError.{EinjError}
 use Rattle.apei_hest.specs.Hest.{Judges}
 use Rattle.apei_hest.specs.declared.error.HestError.{HestError}
 use Rattle.apei_hest.specs.declared.source.Ghes.{Ghes}
@@ -10,7 +12,7 @@ use Rattle.ghes_script.specs.declared.line.Line.{Line}
 use Rattle.ghes_script.specs.Script.{IsScript, IsRefusedAt}
 use Rattle.ghes_replay.specs.Seen.{FilesSeen, SinkSeen, table_limit, script_limit, block_limit}
 use Rattle.ghes_replay.specs.Served.{served}
-use Rattle.ghes_replay.specs.Task.{Task, Replay, Check, Decode, IsTask}
+use Rattle.ghes_replay.specs.Task.{Task, Replay, Check, Decode, IsTask, IsEinjName}
 
 -- A file is told, and within its limit.
 pub record IsTold (seen : FilesSeen) (name : List ℕ) (limit : ℕ) (bytes : List ℕ) : Type 0 where
@@ -29,20 +31,38 @@ TellsTable seen name ghes = (found : List Source) × TellsHest seen name found �
 abbrev pub TellsScript : FilesSeen → List ℕ → Ghes → List Line → Type 0
 TellsScript seen name ghes lines = (bytes : List ℕ) × IsTold seen name script_limit bytes × IsScript ghes.id bytes lines
 
+-- a told injection table is accepted, or the word names none
+abbrev pub TellsInjection : FilesSeen → List ℕ → Type 0
+TellsInjection seen name =
+    (name ≡ codes "-") ⊎ ((bytes : List ℕ) × IsTold seen name table_limit bytes × (einj_refusal bytes ≡ None))
+
+-- both tables of a listing are told and accepted, or the first one is and there is no other
+abbrev pub TellsBoth : FilesSeen → List ℕ → List ℕ → Type 0
+TellsBoth seen hest einj = (found : List Source) × TellsHest seen hest found × TellsInjection seen einj
+
 -- all files of a task are told and accepted; the file of a block is so within its limit
 abbrev pub Accepts : FilesSeen → Task → Type 0
 Accepts seen (Replay hest script) = (ghes : Ghes) × TellsTable seen hest ghes × (lines : List Line) × TellsScript seen script ghes lines
-Accepts seen (Check hest) = (found : List Source) × TellsHest seen hest found
+Accepts seen (Check hest einj) = TellsBoth seen hest einj
 Accepts seen (Decode block) = (bytes : List ℕ) × IsTold seen block block_limit bytes
 
 -- a told table is refused
 abbrev pub RefusesHest : FilesSeen → List ℕ → Type 0
 RefusesHest seen name = (bytes : List ℕ) × IsTold seen name table_limit bytes × (error : HestError) × Judges bytes (Err error)
 
--- the table of a task is told and refused; the text of a block has no table
+-- a told injection table is refused
+abbrev pub RefusesEinj : FilesSeen → List ℕ → Type 0
+RefusesEinj seen name =
+    IsEinjName name × (bytes : List ℕ) × IsTold seen name table_limit bytes × (error : EinjError) × (einj_refusal bytes ≡ Some error)
+
+-- a told table is accepted, and the injection table beside it is told and refused
+abbrev pub RefusesSecond : FilesSeen → List ℕ → List ℕ → Type 0
+RefusesSecond seen hest einj = (found : List Source) × TellsHest seen hest found × RefusesEinj seen einj
+
+-- the table of a task is told and refused, or the injection table of a listing is; the text of a block has no table
 abbrev pub RefusesTable : FilesSeen → Task → Type 0
 RefusesTable seen (Replay hest script) = RefusesHest seen hest
-RefusesTable seen (Check hest) = RefusesHest seen hest
+RefusesTable seen (Check hest einj) = RefusesHest seen hest ⊎ RefusesSecond seen hest einj
 RefusesTable seen (Decode block) = ⊥
 
 -- a told table is accepted, and a replay serves none of its sources so far

@@ -60,11 +60,10 @@ pub(crate) fn call(
         reason,
         fatal,
     } = Image::take(alloc, block.as_slice(), limit)?;
-    let seq = number + 1;
-    let outcome = outcome_by(reason, fatal, pending.is_full(), seq);
+    let outcome = outcome_by(reason, fatal, pending.is_full(), number + 1);
     let packet = Packet {
         source,
-        seq,
+        seq: number + 1,
         bytes,
         reason,
     };

@@ -1,8 +1,9 @@
 ghost use Rattle.std.specs.Prelude.{◌≡◌, ◌++◌, length, is_some, OnOk, IfOk};
 ghost use Rattle.std.specs.String.{string_bytes};
 ghost use Rattle.std.specs.List.{flat_map};
-ghost use Rattle.ghes_replay.specs.Check.{form_text, ghes_line, skipped_line, source_text, hest_count_line, check_text};
+ghost use Rattle.ghes_replay.specs.Check.{form_text, ghes_line, skipped_line, source_text, hest_count_line, einj_count_line, injection_line, check_text};
 
+use apei_einj::Einj;
 use apei_hest::{Ghes, Source};
 use std::alloc::{AllocError, Global};
 
@@ -72,14 +73,36 @@ fn hest_count_line(alloc: Global, count: usize) -> Result<String, AllocError>
     format!(in alloc; "hest: {count} sources\n")
 }
 
-/// The listing of a table without an injection table.
-pub(crate) fn check_text(alloc: Global, found: &[Source]) -> Result<Vec<u8>, AllocError>
-    ensures { IfOk result (λ text. text.items ≡ check_text found.now) }
+// The line of an injection table, by how many entries it has.
+fn einj_count_line(alloc: Global, count: usize) -> Result<String, AllocError>
+    ensures { IfOk result (λ line. string_bytes line ≡ einj_count_line count) }
+{
+    format!(in alloc; "einj: {count} entries\n")
+}
+
+// The line of an injection table, or that there is none.
+fn injection_line(alloc: Global, injection: &Option<Einj>) -> Result<String, AllocError>
+    ensures { IfOk result (λ line. string_bytes line ≡ injection_line injection.now) }
+{
+    match injection {
+        Some(einj) => einj_count_line(alloc, einj.entries().len()),
+        None => String::from_str(alloc, "einj: none\n"),
+    }
+}
+
+/// The listing of a table, and of an injection table where there is one.
+pub(crate) fn check_text(
+    alloc: Global,
+    found: &[Source],
+    injection: &Option<Einj>,
+) -> Result<Vec<u8>, AllocError>
+    ensures { IfOk result (λ text. text.items ≡ check_text found.now injection.now) }
 {
     let mut text = Vec::new(alloc);
     let line = hest_count_line(alloc, found.len())?;
     text.extend_from_slice(line.as_bytes())?;
     sources_text(alloc, &mut text, found)?;
-    text.extend_from_slice(b"einj: none\n")?;
+    let last = injection_line(alloc, injection)?;
+    text.extend_from_slice(last.as_bytes())?;
     Ok(text)
 }

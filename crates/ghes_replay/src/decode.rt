@@ -13,17 +13,6 @@ use std::alloc::{AllocError, Global};
 /// How many bytes a block may have.
 const BLOCK_LIMIT: u32 = 65536;
 
-// How long a block is in bytes, by its header.
-fn block_length(header: &Header) -> u64
-    ensures { result ≡ block_length header.now }
-{
-    if header.raw_length == 0 {
-        20 + u64::from(header.length)
-    } else {
-        u64::from(header.raw_offset) + u64::from(header.raw_length)
-    }
-}
-
 // The line of a block of so many bytes.
 fn block_line(alloc: Global, count: u64) -> Result<String, AllocError>
     ensures { IfOk result (λ line. string_bytes line ≡ block_line count) }
@@ -44,7 +33,7 @@ fn whole_text(alloc: Global, header: &Header, bytes: &[u8]) -> Result<Vec<u8>, A
     requires front { header.now ≡ header_of bytes.now }
     ensures { IfOk result (λ text. text.items ≡ block_line (block_length (header_of bytes.now)) ++ block_text bytes.now) }
 {
-    let mut text = block_line(alloc, block_length(header))?.into_bytes();
+    let mut text = block_line(alloc, header.block_length())?.into_bytes();
     block_text(alloc, &mut text, bytes)?;
     Ok(text)
 }

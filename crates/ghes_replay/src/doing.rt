@@ -4,16 +4,18 @@ ghost use Rattle.std.specs.List.{AllByRecursion};
 ghost use Rattle.ghes_replay.specs.Seen.{files_seen};
 ghost use Rattle.ghes_replay.specs.Task.{Replay, Check, Decode};
 ghost use Rattle.ghes_replay.specs.Run.{RunsLines, LoadsSource, Does};
+ghost use Rattle.ghes_replay.specs.Listing.{Lists};
 ghost use Rattle.ghes_script.specs.Script.{IsOfFirst};
 ghost use Rattle.ghes_replay.specs.Views.{done_of};
 
 use crate::check::check_text;
 use crate::decode::decode_text;
-use crate::loading::{load_block, load_hest, load_script};
+use crate::loading::{load_block, load_hest, load_injection, load_script};
 use crate::script_run::{Replayed, run_script};
 use crate::served::served;
 use crate::{Ledger, Refusal};
-use apei_hest::Ghes;
+use apei_einj::Einj;
+use apei_hest::{Ghes, Source};
 use ghes_outside::Files;
 use ghes_script::Line;
 use std::alloc::Global;
@@ -79,17 +81,35 @@ pub(crate) fn replay<F: Files>(
     }
 }
 
-/// Lists the table of a file.
-pub(crate) fn check<F: Files>(alloc: Global, files: &mut F, hest: &str) -> Result<Done, Refusal>
+// Lists tables that were loaded.
+fn list_both(alloc: Global, found: &[Source], injection: &Option<Einj>) -> Result<Done, Refusal>
+    ensures { Lists found.now injection.now (done_of result) }
+{
+    match check_text(alloc, found, injection) {
+        Ok(text) => Ok(Done { ledger: None, text }),
+        Err(_) => Err(Refusal::OutOfMemory),
+    }
+}
+
+/// Lists the table of a file, and the injection table of another unless its word is `-`.
+pub(crate) fn check<F: Files>(
+    alloc: Global,
+    files: &mut F,
+    hest: &str,
+    einj: &str,
+) -> Result<Done, Refusal>
     ensures { Does
         (files_seen (F.contents files.old) (F.failed files.old) (F.faults files.old))
         (files_seen (F.contents files.new) (F.failed files.new) (F.faults files.new))
-        (Check hest.now) (done_of result) }
+        (Check hest.now einj.now) (done_of result) }
 {
-    let found = load_hest(alloc, files, hest)?;
-    match check_text(alloc, found.sources()) {
-        Ok(text) => Ok(Done { ledger: None, text }),
-        Err(_) => Err(Refusal::OutOfMemory),
+    let found = match load_hest(alloc, files, hest) {
+        Ok(found) => found,
+        Err(refusal) => return Err(refusal),
+    };
+    match load_injection(alloc, files, einj) {
+        Ok(injection) => list_both(alloc, found.sources(), &injection),
+        Err(refusal) => Err(refusal),
     }
 }
 

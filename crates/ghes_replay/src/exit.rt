@@ -1,8 +1,10 @@
 ghost use Rattle.std.specs.Prelude.{◌≡◌, IfOk, map};
 ghost use Rattle.std.specs.String.{string_bytes};
+ghost use Rattle.apei_einj.specs.Text.{einj_error_text};
 ghost use Rattle.apei_hest.specs.Text.{hest_error_text};
-ghost use Rattle.ghes_replay.specs.Refusal.{status_of, file_name, load_error_text, load_line, hest_line, script_line, line_of, refused_word};
+ghost use Rattle.ghes_replay.specs.Refusal.{status_of, file_name, load_error_text, load_line, hest_line, einj_line, script_line, line_of, refused_word};
 
+use apei_einj::EinjError;
 use apei_hest::HestError;
 use ghes_outside::LoadError;
 use ghes_script::BadLine;
@@ -12,6 +14,7 @@ use std::alloc::{AllocError, Global};
 #[derive(Clone, Copy, Debug, PartialEq, Eq)]
 pub enum InputFile {
     Hest,
+    Einj,
     Script,
     Block,
 }
@@ -27,6 +30,8 @@ pub enum Refusal {
     Hest(HestError),
     /// The table is accepted, and a replay does not serve its sources so far. Status 3.
     NotBuilt,
+    /// The injection table is refused, behind an accepted table. Status 3.
+    Einj(EinjError),
     /// This is the script's first bad line. Status 4.
     Script(BadLine),
     /// Status 7.
@@ -52,6 +57,7 @@ fn file_name(words: &[String], file: InputFile) -> &str
 {
     let word = match file {
         InputFile::Hest | InputFile::Block => words.get(1),
+        InputFile::Einj => words.get(2),
         InputFile::Script => words.get(3),
     };
     match word {
@@ -85,6 +91,13 @@ fn hest_line(alloc: Global, error: HestError) -> Result<String, AllocError>
     format!(in alloc; "ghes: hest: {error}\n")
 }
 
+// The line for a refused injection table.
+fn einj_line(alloc: Global, error: EinjError) -> Result<String, AllocError>
+    ensures { IfOk result (λ line. string_bytes line ≡ einj_line (einj_error_text error)) }
+{
+    format!(in alloc; "ghes: einj: {error}\n")
+}
+
 // The line for a refused script.
 fn script_line(alloc: Global, at: BadLine) -> Result<String, AllocError>
     ensures { IfOk result (λ text. string_bytes text ≡ script_line at) }
@@ -102,6 +115,7 @@ impl Refusal {
         match self {
             Refusal::Load(file, _) => file_name(words, file),
             Refusal::Hest(_) | Refusal::NotBuilt => file_name(words, InputFile::Hest),
+            Refusal::Einj(_) => file_name(words, InputFile::Einj),
             Refusal::Script(_) => file_name(words, InputFile::Script),
             Refusal::Usage | Refusal::OutOfMemory => "",
         }
@@ -113,7 +127,7 @@ impl Refusal {
     {
         match self {
             Refusal::Usage => 2,
-            Refusal::Hest(_) | Refusal::NotBuilt => 3,
+            Refusal::Hest(_) | Refusal::NotBuilt | Refusal::Einj(_) => 3,
             Refusal::Script(_) => 4,
             Refusal::Load(_, _) => 5,
             Refusal::OutOfMemory => 7,
@@ -132,6 +146,7 @@ impl Refusal {
             Refusal::Load(file, why) => { load_line(alloc, name, load_word(why)) },
             Refusal::Hest(error) => hest_line(alloc, error),
             Refusal::NotBuilt => String::from_str(alloc, "ghes: hest: 9 not built\n"),
+            Refusal::Einj(error) => einj_line(alloc, error),
             Refusal::Script(line) => script_line(alloc, line),
             Refusal::OutOfMemory => String::from_str(alloc, "ghes: out of memory\n"),
         }

@@ -1,16 +1,18 @@
 ghost use Rattle.std.specs.Prelude.{◌≡◌, ◌<◌, ◌^◌, ◌-◌, length};
 ghost use Rattle.ghes_replay.specs.Seen.{files_seen};
 ghost use Rattle.ghes_replay.specs.Loading.{LoadsHest, LoadsScript, ReadsHest, ReadsLines, load_refusal};
+ghost use Rattle.ghes_replay.specs.Listing.{ReadsEinj, LoadsEinj, LoadsInjection};
 ghost use Rattle.ghes_replay.specs.Decode.{LoadsBlock};
 ghost use Rattle.ghes_replay.specs.Views.{lines_of, bytes_of};
 
 use crate::{InputFile, Refusal};
+use apei_einj::{Einj, EinjError};
 use apei_hest::{Ghes, Hest, HestError};
 use ghes_outside::{Files, LoadError};
 use ghes_script::{Line, ScriptError, read_script};
 use std::alloc::Global;
 
-/// How many bytes a table may have.
+/// How many bytes a table may have, and an injection table too.
 const TABLE_LIMIT: usize = 1048576;
 /// How many bytes a script may have.
 const SCRIPT_LIMIT: usize = 16777216;
@@ -25,6 +27,17 @@ fn read_hest(alloc: Global, bytes: &[u8]) -> Result<Hest, Refusal>
         Ok(hest) => Ok(hest),
         Err(HestError::OutOfMemory) => Err(Refusal::OutOfMemory),
         Err(error) => Err(Refusal::Hest(error)),
+    }
+}
+
+// The injection table that the bytes are.
+fn read_einj(alloc: Global, bytes: &[u8]) -> Result<Einj, Refusal>
+    ensures { ReadsEinj bytes.now result }
+{
+    match Einj::read(alloc, bytes) {
+        Ok(einj) => Ok(einj),
+        Err(EinjError::OutOfMemory) => Err(Refusal::OutOfMemory),
+        Err(error) => Err(Refusal::Einj(error)),
     }
 }
 
@@ -61,6 +74,40 @@ pub(crate) fn load_hest<F: Files>(alloc: Global, files: &mut F, name: &str) -> R
     match files.load(name, &mut bytes, TABLE_LIMIT) {
         Ok(()) => read_hest(alloc, &bytes),
         Err(why) => Err(load_refusal(InputFile::Hest, why)),
+    }
+}
+
+// Loads an injection table and reads its entries.
+fn load_einj<F: Files>(alloc: Global, files: &mut F, name: &str) -> Result<Einj, Refusal>
+    ensures { LoadsEinj
+        (files_seen (F.contents files.old) (F.failed files.old) (F.faults files.old))
+        (files_seen (F.contents files.new) (F.failed files.new) (F.faults files.new))
+        name.now result }
+{
+    let mut bytes = Vec::new(alloc);
+    match files.load(name, &mut bytes, TABLE_LIMIT) {
+        Ok(()) => read_einj(alloc, &bytes),
+        Err(why) => Err(load_refusal(InputFile::Einj, why)),
+    }
+}
+
+/// Loads the injection table that a word names, and reads its entries; `-` stands for none, and no file is read.
+pub(crate) fn load_injection<F: Files>(
+    alloc: Global,
+    files: &mut F,
+    name: &str,
+) -> Result<Option<Einj>, Refusal>
+    ensures { LoadsInjection
+        (files_seen (F.contents files.old) (F.failed files.old) (F.faults files.old))
+        (files_seen (F.contents files.new) (F.failed files.new) (F.faults files.new))
+        name.now result }
+{
+    if name == "-" {
+        return Ok(None);
+    }
+    match load_einj(alloc, files, name) {
+        Ok(einj) => Ok(Some(einj)),
+        Err(refusal) => Err(refusal),
     }
 }
 

@@ -4,12 +4,13 @@ ghost use Rattle.std.specs.String.{string_bytes};
 ghost use Rattle.ghes_replay.specs.Seen.{files_seen, sink_seen, Loads};
 ghost use Rattle.ghes_replay.specs.Task.{Task as Asked, IsTask, IsFileWord};
 ghost use Rattle.ghes_replay.specs.Run.{Answers, RefusedBy, EndsBy, PutsText, is_status, is_check_status, is_decode_status, done_status, IsUnlessFault};
+ghost use Rattle.ghes_replay.specs.Refusal.{refused_word};
 ghost use Rattle.ghes_replay.specs.Told.{IsAccepted, HasBadTable, HasUnserved, HasBadScript};
 ghost use Rattle.ghes_outside.specs.Outside.{Rose};
 ghost use Rattle.ghes_replay.specs.Views.{done_of};
 
 use crate::doing::{Done, check, decode, replay};
-use crate::exit::{MEMORY_LINE, Refusal};
+use crate::exit::{InputFile, MEMORY_LINE, Refusal};
 use crate::putting::end_with;
 use crate::task::{Task, task_of};
 use crate::{Ledger, PanicEntry};
@@ -34,7 +35,7 @@ fn answer<F: Files>(alloc: Global, words: &[String], files: &mut F) -> Result<Do
 {
     match task_of(words) {
         Some(Task::Replay { hest, script }) => replay(alloc, files, hest, script),
-        Some(Task::Check { hest }) => check(alloc, files, hest),
+        Some(Task::Check { hest, einj }) => check(alloc, files, hest, einj),
         Some(Task::Decode { block }) => decode(alloc, files, block),
         None => Err(Refusal::Usage),
     }
@@ -87,17 +88,17 @@ fn run<F: Files, K: Sink>(alloc: Global, words: &[String], files: &mut F, out: &
 
 /// Runs the program: does what the words after the program's name ask for, with these files and this output.
 ///
-/// So far the words are `replay HEST - SCRIPT`, `check HEST -` or `decode BLOCK`, where HEST, SCRIPT and BLOCK name
-/// files of at most 1 MiB, 16 MiB and 65,536 bytes, and `-` stands for no injection table. The order of the work is:
-/// the words, the table, the script; the first refusal ends the run. All text is made first, and then put in pieces of
-/// at most 4,096 bytes.
+/// So far the words are `replay HEST - SCRIPT`, `check HEST EINJ` or `decode BLOCK`, where HEST, EINJ, SCRIPT and BLOCK
+/// name files of at most 1 MiB, 1 MiB, 16 MiB and 65,536 bytes, and `-` for EINJ stands for no injection table. The order
+/// of the work is: the words, the table, then the injection table or the script; the first refusal ends the run. All text
+/// is made first, and then put in pieces of at most 4,096 bytes.
 pub fn ghes_run<F: Files, K: Sink>(
     alloc: Global,
     words: &[String],
     files: &mut F,
     out: &mut K,
 ) -> RunEnd
-    // How it ends: with the text of what was done, which is that of a lawful ledger, of an accepted table or of a judged
+    // How it ends: with the text of what was done, which is that of a lawful ledger, of accepted tables or of a judged
     // block, or with the line of a refusal that has its cause.
     ensures ends { EndsBy (map string_bytes words.now)
         (files_seen (F.contents files.old) (F.failed files.old) (F.faults files.old))
@@ -116,8 +117,8 @@ pub fn ghes_run<F: Files, K: Sink>(
     ensures loads { Loads (IsFileWord (map string_bytes words.now))
         (files_seen (F.contents files.old) (F.failed files.old) (F.faults files.old))
         (files_seen (F.contents files.new) (F.failed files.new) (F.faults files.new)) }
-    // Words that ask for nothing, a refused table, one that is not served so far and a refused script get their status,
-    // unless the output fails or memory runs out.
+    // Words that ask for nothing, a refused table or injection table, a table that is not served so far and a refused
+    // script get their status, unless the output fails or memory runs out.
     ensures bad_words { ((task : Asked) → IsTask (map string_bytes words.now) task → ⊥) → IsUnlessFault result.status 2 }
     ensures bad_table { HasBadTable (map string_bytes words.now)
         (files_seen (F.contents files.old) (F.failed files.old) (F.faults files.old))
@@ -150,14 +151,22 @@ fn answer_check<F: Files>(
         (files_seen (F.contents files.new) (F.failed files.new) (F.faults files.new))
         (done_of result) }
 {
-    if einj == "-" {
-        check(alloc, files, hest)
-    } else {
-        Err(Refusal::Usage)
+    check(alloc, files, hest, einj)
+}
+
+// The name in the line of a refusal of the words `check HEST EINJ`.
+fn listed_name<'a>(hest: &'a str, einj: &'a str, refusal: Refusal) -> &'a str
+    ensures { result.now ≡ refused_word (codes "check" ∷ hest.now ∷ einj.now ∷ []) refusal }
+{
+    match refusal {
+        Refusal::Load(InputFile::Hest | InputFile::Block, _) => hest,
+        Refusal::Hest(_) | Refusal::NotBuilt => hest,
+        Refusal::Load(InputFile::Einj, _) | Refusal::Einj(_) => einj,
+        _ => "",
     }
 }
 
-// Lists a table, and puts the text or the line of the refusal.
+// Lists tables, and puts the text or the line of the refusal.
 fn list<F: Files, K: Sink>(
     alloc: Global,
     hest: &str,
@@ -176,15 +185,16 @@ fn list<F: Files, K: Sink>(
 {
     match answer_check(alloc, hest, einj, files) {
         Ok(Done { ledger, text }) => end_with(out, &text, done_status(&ledger), ledger),
-        Err(refusal) => refuse(alloc, out, hest, refusal),
+        Err(refusal) => refuse(alloc, out, listed_name(hest, einj, refusal), refusal),
     }
 }
 
-/// Lists the error sources of the table in the file `hest`, as the program does for the words `check HEST EINJ`, and
-/// gives the status.
+/// Lists the error sources of the table in the file `hest`, and how many entries the injection table in the file `einj`
+/// has, as the program does for the words `check HEST EINJ`, and gives the status.
 ///
-/// So far `einj` is `-`, for no injection table; another name is refused as words that are no form of the command line.
-/// It neither waits nor starts threads, and it returns.
+/// Each file has at most 1 MiB. `-` for `einj` stands for no injection table, and only one file is read then. The table is
+/// judged first, and the injection table is read only where that is accepted. It neither waits nor starts threads, and it
+/// returns.
 pub fn check_run<F: Files, K: Sink>(
     alloc: Global,
     hest: &str,
@@ -206,7 +216,6 @@ pub fn check_run<F: Files, K: Sink>(
     ensures loads { Loads (IsFileWord (codes "check" ∷ hest.now ∷ einj.now ∷ []))
         (files_seen (F.contents files.old) (F.failed files.old) (F.faults files.old))
         (files_seen (F.contents files.new) (F.failed files.new) (F.faults files.new)) }
-    ensures bad_words { (einj.now ≡ codes "-" → ⊥) → IsUnlessFault result 2 }
     ensures bad_table { HasBadTable (codes "check" ∷ hest.now ∷ einj.now ∷ [])
         (files_seen (F.contents files.old) (F.failed files.old) (F.faults files.old))
         (files_seen (F.contents files.new) (F.failed files.new) (F.faults files.new)) → IsUnlessFault result 3 }

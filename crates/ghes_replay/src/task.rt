@@ -7,8 +7,8 @@ ghost use Rattle.ghes_replay.specs.Task.{Task as Asked, Replay as AskedReplay, C
 pub(crate) enum Task<'a> {
     /// To replay a script on a table.
     Replay { hest: &'a str, script: &'a str },
-    /// To list a table.
-    Check { hest: &'a str },
+    /// To list a table, and an injection table unless its word is `-`.
+    Check { hest: &'a str, einj: &'a str },
     /// To print a block.
     Decode { block: &'a str },
 }
@@ -28,19 +28,19 @@ fn replay_names(words: &[String]) -> Option<(&str, &str)>
     Some((hest.as_str(), script.as_str()))
 }
 
-// The name of the table in the words `check HEST -`.
-fn check_name(words: &[String]) -> Option<&str>
+// The words for the tables in the words `check HEST EINJ`.
+fn check_names(words: &[String]) -> Option<(&str, &str)>
     ensures { MatchOption result
-        ((hest : List ℕ) → IsTask (map string_bytes words.now) (AskedCheck hest) → ⊥)
-        (λ name. IsTask (map string_bytes words.now) (AskedCheck name.now)) }
+        ((hest einj : List ℕ) → IsTask (map string_bytes words.now) (AskedCheck hest einj) → ⊥)
+        (λ names. IsTask (map string_bytes words.now) (AskedCheck names.0.now names.1.now)) }
 {
     let [command, hest, einj] = words else {
         return None;
     };
-    if command.as_str() != "check" || einj.as_str() != "-" {
+    if command.as_str() != "check" {
         return None;
     }
-    Some(hest.as_str())
+    Some((hest.as_str(), einj.as_str()))
 }
 
 // The name of the block in the words `decode BLOCK`.
@@ -67,8 +67,8 @@ pub(crate) fn task_of(words: &[String]) -> Option<Task<'_>>
     if let Some((hest, script)) = replay_names(words) {
         return Some(Task::Replay { hest, script });
     }
-    if let Some(hest) = check_name(words) {
-        return Some(Task::Check { hest });
+    if let Some((hest, einj)) = check_names(words) {
+        return Some(Task::Check { hest, einj });
     }
     match decode_name(words) {
         Some(block) => Some(Task::Decode { block }),

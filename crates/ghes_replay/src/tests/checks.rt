@@ -1,6 +1,6 @@
 // What `check` prints, and how it refuses a table.
 use super::{
-    SOURCE, SOURCE_2, USAGE, ask, blank, changed, list, mend, one_source, server, set, table,
+    EINJ, SOURCE, SOURCE_2, ask, blank, changed, list, mend, one_source, server, set, table,
     words_of,
 };
 use crate::check_run;
@@ -82,22 +82,67 @@ fn a_generic_source_is_listed_with_its_version_and_state(rt: HostRuntime) -> Res
 
 #[test]
 fn check_run_answers_as_the_words_do(rt: HostRuntime) -> Result<(), Fail> {
-    // The names of the table and of the injection table, and then status and output.
+    // The names of the table and of the injection table, and then status and output. A second load fails: with `-` there
+    // is none.
     const CASES: [(&str, &str, u8, &str); 4] = [
         ("hest", "-", 0, SERVER_TEXT),
-        ("hest", "einj", 2, USAGE),
-        ("x", "einj", 2, USAGE),
+        ("hest", "einj", 5, "ghes: read einj: 1 failed\n"),
+        ("x", "einj", 5, "ghes: read x: 1 failed\n"),
         ("x", "-", 5, "ghes: read x: 1 failed\n"),
     ];
     let alloc = rt.alloc();
     let table = server(alloc, 1)?;
     for (hest, einj, status, text) in &CASES {
-        let mut files = MemFiles::new(alloc, &[])?;
+        let mut files = MemFiles::new(alloc, &[2])?;
         files.add("hest", &table)?;
+        files.add("-", b"no table")?;
         let mut out = MemSink::new(alloc, 1000, &[])?;
         let end = check_run(alloc, hest, einj, &mut files, &mut out);
         assert_eq!(rt; end, *status, "at {hest} {einj}");
         assert!(rt; out.written() == text.as_bytes(), "at {hest} {einj}");
+    }
+    Ok(())
+}
+
+#[test]
+fn the_entries_of_an_injection_table_are_counted(rt: HostRuntime) -> Result<(), Fail> {
+    let alloc = rt.alloc();
+    let table = one_source(alloc)?;
+    let einj = hex::decode(alloc, EINJ)?;
+    let files = [("hest", table.as_slice()), ("einj", einj.as_slice())];
+    let ran = ask(alloc, &["check", "hest", "einj"], &files, &[])?;
+    let text = b"hest: 1 sources\n\
+        1 at 40: ghes enabled, notification 4, block length 4096\n\
+        einj: 9 entries\n";
+    assert_eq!(rt; ran.end.status, 0);
+    assert!(rt; ran.out.written() == text.as_slice());
+    Ok(())
+}
+
+#[test]
+fn a_table_is_judged_before_an_injection_table(rt: HostRuntime) -> Result<(), Fail> {
+    // What the checksum of the table "one source" is, the name of the injection table, and then status and output.
+    const CASES: [(u8, &str, u8, &str); 5] = [
+        (0x41, "sixteen", 3, "ghes: hest: 1 table: 4 checksum\n"),
+        (0x41, "x", 3, "ghes: hest: 1 table: 4 checksum\n"),
+        (0x40, "sixteen", 3, "ghes: einj: 2 header size\n"),
+        (0x40, "x", 5, "ghes: read x: 1 failed\n"),
+        (0x40, "long", 5, "ghes: read long: 2 too long\n"),
+    ];
+    let alloc = rt.alloc();
+    let einj = changed(alloc, EINJ, &[(36, 16), (9, 0x91)])?;
+    let long = vec![in alloc; 0u8; 1_048_577]?;
+    for (sum, name, status, line) in &CASES {
+        let mut table = one_source(alloc)?;
+        set(&mut table, &[(9, *sum)]);
+        let files = [
+            ("hest", table.as_slice()),
+            ("sixteen", einj.as_slice()),
+            ("long", long.as_slice()),
+        ];
+        let ran = ask(alloc, &["check", "hest", name], &files, &[])?;
+        assert_eq!(rt; ran.end.status, *status, "at {sum} {name}");
+        assert!(rt; ran.out.written() == line.as_bytes(), "at {sum} {name}");
     }
     Ok(())
 }

@@ -1,6 +1,7 @@
 -- What follows from how the text of a block ends.
 use Rattle.ghes_replay.specs.Seen.{files_seen}
-use Rattle.ghes_replay.proofs.EndLemmas.{is_complete, is_listed, list_ends, decode_no_replay, decode_statuses}
+use Rattle.ghes_replay.proofs.EndLemmas.{is_complete, is_listed}
+use Rattle.ghes_replay.proofs.PrintLemmas.{list_ends, decode_no_replay, decode_statuses}
 use Rattle.ghes_replay.proofs.run.decode_run.Goals as goal
 
 pub returns-clause-ends : goal.returns-clause-ends
