@@ -1,5 +1,5 @@
 #!/usr/bin/env bash
-# How the built program meets real files and a full device: run by hand, checks/host.sh. It stands outside the gate.
+# How the built program meets real files and a full device. .ci/run runs it behind the gate; it needs the program built.
 set -u
 top=$(cd "$(dirname "$0")/.." && pwd)
 data=$top/crates/ghes/data
@@ -23,15 +23,20 @@ expect() {
 expect "the stored example" 0 "nmi 1: queued 1" replay "$data/hest.bin" - "$data/script"
 expect "a listing" 0 "hest: 1 sources" check "$data/hest.bin" -
 expect "a listing of a server" 0 "hest: 7 sources" check "$data/server.bin" -
+expect "a listing with an injection table" 0 "hest: 1 sources" check "$data/hest.bin" "$data/einj.bin"
+expect "a table of another kind" 3 "ghes: einj: 1 table: 2 signature" check "$data/hest.bin" "$data/hest.bin"
+expect "a missing injection table" 5 "ghes: read $folder/none: 1 failed" check "$data/hest.bin" "$folder/none"
 expect "a block" 0 "block of 164 bytes" decode "$data/block.bin"
 expect "bytes that are no block" 0 "malformed 1 too short" decode /dev/null
-own=/sys/firmware/acpi/tables/HEST
-if [ -r "$own" ]; then
+tables=/sys/firmware/acpi/tables
+if [ -r "$tables/HEST" ]; then
   # The count of its structures stands at offset 36, the lowest byte first.
-  count=$((0x$(od -An -tx1 -j36 -N4 "$own" | awk '{print $4 $3 $2 $1}')))
-  expect "the table of this machine" 0 "hest: $count sources" check "$own" -
+  count=$((0x$(od -An -tx1 -j36 -N4 "$tables/HEST" | awk '{print $4 $3 $2 $1}')))
+  expect "the table of this machine" 0 "hest: $count sources" check "$tables/HEST" -
+  [ -r "$tables/EINJ" ] &&
+    expect "both tables of this machine" 0 "hest: $count sources" check "$tables/HEST" "$tables/EINJ"
 else
-  echo "skipped the table of this machine: there is none that this user may read"
+  echo "skipped the tables of this machine: there are none that this user may read"
 fi
 expect "a missing file" 5 "ghes: read $folder/none: 1 failed" replay "$folder/none" - "$data/script"
 expect "a folder" 5 "ghes: read $folder: 1 failed" replay "$folder" - "$data/script"
