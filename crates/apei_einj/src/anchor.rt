@@ -3,6 +3,10 @@ ghost use Rattle.std.specs.Prelude.{◌≡◌, option_copied, is_none};
 ghost use Rattle.apei_einj.specs.Anchor.{anchor_of};
 ghost use Rattle.apei_einj.specs.Refusal.{lacks, missing_refusal};
 
+use crate::action::{
+    CHECK_BUSY, EXECUTE, GET_ERROR_TYPE, GET_STATUS, GET_TRIGGER_TABLE, SET_ERROR_TYPE,
+    SET_TYPE_WITH_ADDRESS,
+};
 use crate::{EinjError, Entry};
 
 /// The anchor of an action among the entries: the first that is of this action and may be its anchor.
@@ -29,23 +33,29 @@ fn lacks(entries: &[Entry], action: u8) -> bool
 pub(crate) fn missing_refusal(entries: &[Entry]) -> Option<EinjError>
     ensures { result ≡ missing_refusal entries.now }
 {
-    if lacks(entries, 1) {
-        return Some(EinjError::Missing { action: 1 });
+    if lacks(entries, GET_TRIGGER_TABLE) {
+        return Some(EinjError::Missing {
+            action: GET_TRIGGER_TABLE,
+        });
     }
-    if lacks(entries, 2) && lacks(entries, 8) {
-        return Some(EinjError::Missing { action: 2 });
+    if lacks(entries, SET_ERROR_TYPE) && lacks(entries, SET_TYPE_WITH_ADDRESS) {
+        return Some(EinjError::Missing {
+            action: SET_ERROR_TYPE,
+        });
     }
-    if lacks(entries, 3) {
-        return Some(EinjError::Missing { action: 3 });
+    if lacks(entries, GET_ERROR_TYPE) {
+        return Some(EinjError::Missing {
+            action: GET_ERROR_TYPE,
+        });
     }
-    if lacks(entries, 5) {
-        return Some(EinjError::Missing { action: 5 });
+    if lacks(entries, EXECUTE) {
+        return Some(EinjError::Missing { action: EXECUTE });
     }
-    if lacks(entries, 6) {
-        return Some(EinjError::Missing { action: 6 });
+    if lacks(entries, CHECK_BUSY) {
+        return Some(EinjError::Missing { action: CHECK_BUSY });
     }
-    if lacks(entries, 7) {
-        return Some(EinjError::Missing { action: 7 });
+    if lacks(entries, GET_STATUS) {
+        return Some(EinjError::Missing { action: GET_STATUS });
     }
     None
 }

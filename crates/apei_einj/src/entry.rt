@@ -4,6 +4,13 @@ ghost use Rattle.apei_einj.specs.Entry.{entry_of, is_injection, reads_register, 
 ghost use Rattle.apei_einj.specs.Refusal.{register_reason, entry_refusal};
 
 use crate::EinjError;
+use crate::action::{
+    CHECK_BUSY, EXECUTE, GET_ERROR_TYPE, GET_STATUS, GET_TRIGGER_TABLE, SET_ERROR_TYPE,
+    SET_TYPE_WITH_ADDRESS,
+};
+use crate::instruction::{
+    NO_OPERATION, READ_REGISTER, READ_REGISTER_VALUE, WRITE_REGISTER, WRITE_REGISTER_VALUE,
+};
 use apei_base::{Gas, GasError, gas_at, u64_at};
 
 /// An injection entry: one instruction of an action, with the register that it is about.
@@ -29,9 +36,6 @@ pub struct Entry {
     pub mask: u64,
 }
 
-/// The greatest instruction, no operation.
-pub(crate) const NO_OPERATION: u8 = 4;
-
 /// How far the address structure of action 8 reaches behind its first byte.
 const LAST_BYTE: u64 = 35;
 
@@ -56,21 +60,21 @@ impl Entry {
     pub(crate) fn is_injection(&self) -> bool
         ensures { result ≡ is_injection self.now }
     {
-        self.action <= 8
+        self.action <= SET_TYPE_WITH_ADDRESS
     }
 
     // Whether the entry reads its register.
     fn reads_register(&self) -> bool
         ensures { result ≡ reads_register self.now }
     {
-        matches!(self.instruction, 0 | 1)
+        matches!(self.instruction, READ_REGISTER | READ_REGISTER_VALUE)
     }
 
     // Whether the entry writes its register.
     fn writes_register(&self) -> bool
         ensures { result ≡ writes_register self.now }
     {
-        matches!(self.instruction, 2 | 3)
+        matches!(self.instruction, WRITE_REGISTER | WRITE_REGISTER_VALUE)
     }
 
     /// Whether the entry may be the anchor of an action.
@@ -78,9 +82,9 @@ impl Entry {
         ensures { result ≡ may_anchor action self.now }
     {
         match action {
-            1 | 3 | 6 | 7 => self.reads_register(),
-            2 | 5 => self.writes_register(),
-            8 => self.writes_register() && self.register.space == 0,
+            GET_TRIGGER_TABLE | GET_ERROR_TYPE | CHECK_BUSY | GET_STATUS => self.reads_register(),
+            SET_ERROR_TYPE | EXECUTE => self.writes_register(),
+            SET_TYPE_WITH_ADDRESS => self.writes_register() && self.register.space == 0,
             _ => false,
         }
     }
@@ -92,7 +96,7 @@ impl Entry {
         if let Err(why) = self.register.check() {
             return Some(why);
         }
-        if self.action == 8 && self.register.address > u64::MAX - LAST_BYTE {
+        if self.action == SET_TYPE_WITH_ADDRESS && self.register.address > u64::MAX - LAST_BYTE {
             return Some(GasError::PastEnd);
         }
         None

@@ -7,6 +7,7 @@ ghost use Rattle.apei_einj.specs.Refusal.{first_refusal};
 ghost use Rattle.apei_einj.specs.declared.injected.InjectError.TheVariants.{Fault, NoAddress};
 
 use crate::access::act;
+use crate::action::{CHECK_BUSY, END, EXECUTE, GET_STATUS, GET_TRIGGER_TABLE};
 use crate::prepare::prepare;
 use crate::trigger::trigger;
 use crate::{Einj, Entry, InjectError, Injected, Request};
@@ -21,7 +22,7 @@ fn wait<B: Bus>(entries: &[Entry], bus: &mut B) -> Result<u32, InjectError>
     ensures { IsDone (Waits B.step entries.now) (B.state bus.old) (B.faults bus.old) result (B.state bus.new) (B.faults bus.new) }
 {
     for busy_reads in 0..BUSY_LIMIT {
-        let value = act(entries, 6, 0, bus)?;
+        let value = act(entries, CHECK_BUSY, 0, bus)?;
         if value % 2 == 0 {
             return Ok(busy_reads);
         }
@@ -45,9 +46,9 @@ fn execute<B: Bus>(entries: &[Entry], bus: &mut B) -> Result<u32, InjectError>
     requires { first_refusal entries.now ≡ None }
     ensures { IsDone (Executes B.step entries.now) (B.state bus.old) (B.faults bus.old) result (B.state bus.new) (B.faults bus.new) }
 {
-    act(entries, 5, 0, bus)?;
+    act(entries, EXECUTE, 0, bus)?;
     let busy_reads = wait(entries, bus)?;
-    let status = act(entries, 7, 0, bus)?;
+    let status = act(entries, GET_STATUS, 0, bus)?;
     check_status(status)?;
     Ok(busy_reads)
 }
@@ -57,9 +58,9 @@ fn finish<B: Bus>(entries: &[Entry], bus: &mut B) -> Result<(), InjectError>
     requires { first_refusal entries.now ≡ None }
     ensures { IsDone (Ends B.step entries.now) (B.state bus.old) (B.faults bus.old) result (B.state bus.new) (B.faults bus.new) }
 {
-    let address = act(entries, 1, 0, bus)?;
+    let address = act(entries, GET_TRIGGER_TABLE, 0, bus)?;
     trigger(bus, address)?;
-    act(entries, 4, 0, bus)?;
+    act(entries, END, 0, bus)?;
     Ok(())
 }
 

@@ -9,6 +9,18 @@ use crate::Entry;
 use crate::run::RunError;
 use apei_base::{Bus, Region};
 
+// The codes of the instructions. Source: ACPI 6.5, 18.6.3.
+pub(crate) const READ_REGISTER: u8 = 0;
+
+pub(crate) const READ_REGISTER_VALUE: u8 = 1;
+
+pub(crate) const WRITE_REGISTER: u8 = 2;
+
+pub(crate) const WRITE_REGISTER_VALUE: u8 = 3;
+
+/// No operation, the greatest code.
+pub(crate) const NO_OPERATION: u8 = 4;
+
 // The region of an entry's register.
 fn region(entry: &Entry) -> Region
     requires { gas_refusal entry.now.register ≡ None }
@@ -85,19 +97,19 @@ pub(crate) fn run_entry<B: Bus>(entry: &Entry, value: u64, bus: &mut B) -> Resul
     ensures grows { B.faults bus.old ≤ B.faults bus.new }
 {
     match entry.instruction {
-        0 => {
+        READ_REGISTER => {
             let cell = bus.read(&region(entry))?;
             Ok(field(entry, cell))
         }
-        1 => {
+        READ_REGISTER_VALUE => {
             let cell = bus.read(&region(entry))?;
             Ok(u64::from(field(entry, cell) == entry.value))
         }
-        2 => {
+        WRITE_REGISTER => {
             put(entry, value, bus)?;
             Ok(value)
         }
-        3 => {
+        WRITE_REGISTER_VALUE => {
             put(entry, entry.value, bus)?;
             Ok(value)
         }

@@ -4,6 +4,7 @@
 #![tactic(auto)]
 
 mod access;
+mod action;
 mod anchor;
 mod einj;
 mod entry;

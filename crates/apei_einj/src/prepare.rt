@@ -9,6 +9,7 @@ ghost use Rattle.apei_einj.specs.Request.{address_structure};
 ghost use Rattle.apei_einj.specs.declared.injected.InjectError.TheVariants.{Fault};
 
 use crate::access::{act, store};
+use crate::action::{BEGIN, GET_ERROR_TYPE, SET_ERROR_TYPE, SET_TYPE_WITH_ADDRESS};
 use crate::anchor::anchor_of;
 use crate::{Entry, InjectError, Request};
 use apei_base::Bus;
@@ -31,7 +32,7 @@ fn check_place(entries: &[Entry], request: &Request) -> Result<(), InjectError>
     ensures value { result_err result ≡ place_refusal entries.now request.now }
     ensures unfailed { result ≢ Err Fault }
 {
-    if request.place.is_named() && anchor_of(entries, 8).is_none() {
+    if request.place.is_named() && anchor_of(entries, SET_TYPE_WITH_ADDRESS).is_none() {
         return Err(InjectError::NoAddress);
     }
     Ok(())
@@ -67,10 +68,10 @@ fn set_type<B: Bus>(entries: &[Entry], request: &Request, bus: &mut B) -> Result
     requires { first_refusal entries.now ≡ None }
     ensures { IsDone (SetsType B.step entries.now request.now (anchor_of 8 entries.now)) (B.state bus.old) (B.faults bus.old) result (B.state bus.new) (B.faults bus.new) }
 {
-    match anchor_of(entries, 8) {
+    match anchor_of(entries, SET_TYPE_WITH_ADDRESS) {
         Some(anchor) => write_address(bus, anchor.register.address, request),
         None => {
-            act(entries, 2, u64::from(request.error), bus)?;
+            act(entries, SET_ERROR_TYPE, u64::from(request.error), bus)?;
             Ok(())
         }
     }
@@ -86,8 +87,8 @@ pub(crate) fn prepare<B: Bus>(
     ensures { IsDone (Prepares B.step entries.now request.now) (B.state bus.old) (B.faults bus.old) result (B.state bus.new) (B.faults bus.new) }
 {
     check_place(entries, request)?;
-    let types = act(entries, 3, 0, bus)?;
+    let types = act(entries, GET_ERROR_TYPE, 0, bus)?;
     check_type(request, types)?;
-    act(entries, 0, 0, bus)?;
+    act(entries, BEGIN, 0, bus)?;
     set_type(entries, request, bus)
 }

@@ -7,14 +7,11 @@ ghost use Rattle.apei_einj.specs.Trigger.{Triggers, TriggersBehind, trigger_coun
 ghost use Rattle.apei_einj.specs.declared.injected.InjectError.TheVariants.{Fault};
 
 use crate::access::{take, take_any};
-use crate::entry::NO_OPERATION;
+use crate::action::TRIGGER;
 use crate::header::ENTRY_SIZE;
-use crate::instruction::run_entry;
+use crate::instruction::{NO_OPERATION, run_entry};
 use crate::{Entry, InjectError};
 use apei_base::{Bus, u32_at};
-
-/// The action whose entries are run.
-const TRIGGER: u8 = 0xff;
 
 /// How many bytes the header has.
 const HEADER: usize = 16;
