@@ -5,7 +5,7 @@
 //!
 //! - `MemFiles` and `MemSink` are in memory. They tell all that they hold, and fail at the calls that are planned.
 //! - `HostFiles` and `HostSink` are the machine's files and standard output. They tell their count of faults alone.
-//! - `Steps` counts steps for a bound that a contract promises, at no cost.
+//! - `Steps` counts steps for a bound that a contract promises, at no cost: the one of `ghes_steps`.
 #![tactic(auto)]
 
 mod files;
@@ -14,15 +14,14 @@ mod host_sink;
 mod mem_files;
 mod mem_sink;
 mod sink;
-mod steps;
 
 pub use files::{Files, LoadError};
+pub use ghes_steps::Steps;
 pub use host_files::HostFiles;
 pub use host_sink::HostSink;
 pub use mem_files::MemFiles;
 pub use mem_sink::MemSink;
 pub use sink::{PutFailed, Sink};
-pub use steps::Steps;
 
 #[cfg(test)]
 mod tests;

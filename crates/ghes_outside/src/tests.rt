@@ -1,10 +1,6 @@
-ghost use Rattle.std.specs.Prelude.{◌≡◌, ◌<◌};
-
-use super::{Files, HostFiles, HostSink, LoadError, MemFiles, MemSink, PutFailed, Sink, Steps};
+use super::{Files, HostFiles, HostSink, LoadError, MemFiles, MemSink, PutFailed, Sink};
 use std::fmt::Display;
 use std::io::ErrorKind;
-use std::marker::Brand;
-use std::sync::ledger::{Blank, Ledger};
 use std::test::Fail;
 use std::{fs, io};
 
@@ -152,19 +148,4 @@ impl Print for Full {
 fn a_put_to_a_full_device_fails_in_that_call(rt: HostRuntime) {
     let mut sink = HostSink::new(Full);
     assert_eq!(rt; sink.put(b"one line\n"), Err(PutFailed));
-}
-
-// The ledger is picked at a call of a function whose result does not name it.
-fn counted<L: Ledger>(blank: Blank)
-    requires name { blank.name ≡ L.name }
-    requires parts { blank.parts ≡ L.parts }
-    requires some { 0 < blank.parts }
-{
-    let mut steps = Steps::<L>::new(blank);
-    steps.tick();
-}
-
-#[test]
-fn a_caller_makes_steps_of_a_blank() {
-    counted::<Brand>(Blank::new(1));
 }

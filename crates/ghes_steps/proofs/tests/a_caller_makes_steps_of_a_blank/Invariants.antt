@@ -1,4 +1,4 @@
-use Rattle.ghes_outside.proofs.tests.a_caller_makes_steps_of_a_blank.Given as goal
+use Rattle.ghes_steps.proofs.tests.a_caller_makes_steps_of_a_blank.Given as goal
 
 abbrev pub ghosts-counted : goal.ghosts-counted
 ghosts-counted a = record { name = a.blank.name; parts = a.blank.parts }

@@ -1,3 +1,5 @@
+//! The counter.
+
 use std::marker::Model;
 use std::sync::ledger::{Blank, Book, Ledger, Share};
 
