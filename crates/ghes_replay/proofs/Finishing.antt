@@ -1,14 +1,25 @@
 -- A replay that has run its lines and the end of its script has a lawful ledger, and its text is the text of that ledger.
 use Rattle.std.proofs.Common.{◌≡◌, ◌≤◌, ℕ, List, [], ◌++◌, length, take, drop, refl, sym, ap, subst, ◌∙◌}
 use Rattle.std.proofs.lemmas.List.{take-append-drop, drop_all}
-use Rattle.ghes_replay.specs.declared.execute.Replay.{Replay}
+use Rattle.ghes_serial.specs.declared.execute.Replay.{Replay}
 use Rattle.ghes_script.specs.declared.line.Line.{Line}
-use Rattle.ghes_replay.specs.Execute.{executed, step_of}
-use Rattle.ghes_replay.specs.History.{Step, script_end}
-use Rattle.ghes_replay.specs.Lawful.{fatal_names, AreExecuted, IsLawful}
-use Rattle.ghes_replay.specs.Text.{step_text, panic_text, summary_by, history_text, replay_text}
-use Rattle.ghes_replay.proofs.LawfulEnd.{lawful_at_end, summary_is}
+use Rattle.ghes_serial.specs.Execute.{executed, step_of}
+use Rattle.ghes_serial.specs.History.{Step, script_end, acts_in}
+use Rattle.ghes_serial.specs.Lawful.{fatal_names, AreExecuted, IsLawful}
+use Rattle.ghes_replay.specs.Text.{step_text, panic_text, summary_by, summary_text, history_text, replay_text}
+use Rattle.ghes_serial.specs.Queue.{queue, acknowledged}
+use Rattle.ghes_serial.proofs.Facts.{length-range}
+use Rattle.ghes_serial.proofs.Follows.{Follows}
+use Rattle.ghes_serial.proofs.LawfulEnd.{lawful_at_end}
 use Rattle.ghes_replay.proofs.Running.{Runs, RunsOut, runs_end}
+
+-- the numbers of the summary are those of the state
+summary_is : (id : ℕ) (history : List Step) (state : Replay) → Follows history state → summary_by id (length state.blocks.made) state.blocks.acknowledged state.ledger ≡ summary_text id state.ledger history
+summary_is id history state f =
+    let raised : length state.blocks.made ≡ length (queue 0 (acts_in history)) = sym (ap length (f.told.queue 0)) in
+    let taken_note : state.blocks.acknowledged ≡ acknowledged 0 state.ledger.calls = sym (ap length (f.kept.numbers 0) ∙ length-range 1 state.blocks.acknowledged) in
+    ap (λ n. summary_by id n state.blocks.acknowledged state.ledger) raised
+    ∙ ap (λ n. summary_by id (length (queue 0 (acts_in history))) n state.ledger) taken_note
 
 -- the panic report and the summary that are made of a state
 abbrev pub ending_of : ℕ → Replay → List ℕ

@@ -9,10 +9,10 @@ use Rattle.ghes_replay.specs.declared.exit.InputFile.TheVariants as files
 use Rattle.ghes_replay.specs.declared.exit.Refusal.{Refusal}
 use Rattle.ghes_replay.specs.declared.exit.Refusal.TheVariants as refusals
 use Rattle.ghes_replay.specs.Decode.{IsDecoded, DecodeCause}
-use Rattle.ghes_replay.specs.History.{Step}
-use Rattle.ghes_replay.specs.Image.{limit_of}
-use Rattle.ghes_replay.specs.Kept.{Kept}
-use Rattle.ghes_replay.specs.Lawful.{IsLawful}
+use Rattle.ghes_serial.specs.History.{Step}
+use Rattle.ghes_replay.specs.Planned.{limit_of}
+use Rattle.ghes_serial.specs.Kept.{Kept}
+use Rattle.ghes_serial.specs.Lawful.{IsLawful}
 use Rattle.ghes_replay.specs.Refusal.{status_of, line_of, memory_line, refused_word}
 use Rattle.ghes_replay.specs.Text.{replay_text}
 use Rattle.ghes_replay.specs.Seen.{FilesSeen, SinkSeen, Loads}

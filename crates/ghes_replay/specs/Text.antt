@@ -5,16 +5,16 @@ use Rattle.std.specs.Fmt.{decimal}
 use Rattle.cper_block.specs.Text.{malformed_text}
 use Rattle.ghes_report.specs.Body.{block_text}
 use Rattle.ghes_report.specs.Report.{report_text, drop_text, malformed_lines}
-use Rattle.ghes_replay.specs.declared.ledger.Outcome.{Outcome}
-use Rattle.ghes_replay.specs.declared.ledger.Outcome.TheVariants.{Nothing, Queued, Malformed, Fatal, NoSlot}
-use Rattle.ghes_replay.specs.declared.ledger.Call.{Call}
-use Rattle.ghes_replay.specs.declared.ledger.Taken.{Taken}
-use Rattle.ghes_replay.specs.declared.ledger.Taken.TheVariants.{Delivered, Dropped}
-use Rattle.ghes_replay.specs.declared.ledger.PanicEntry.{PanicEntry}
+use Rattle.ghes_serial.specs.declared.ledger.Outcome.{Outcome}
+use Rattle.ghes_serial.specs.declared.ledger.Outcome.TheVariants.{Nothing, Queued, Malformed, Fatal, NoSlot}
+use Rattle.ghes_serial.specs.declared.ledger.Call.{Call}
+use Rattle.ghes_serial.specs.declared.ledger.Taken.{Taken}
+use Rattle.ghes_serial.specs.declared.ledger.Taken.TheVariants.{Delivered, Dropped}
+use Rattle.ghes_serial.specs.declared.ledger.PanicEntry.{PanicEntry}
 use Rattle.cper_block.specs.declared.malformed.Malformed.{Malformed as Reason}
-use Rattle.ghes_replay.specs.History.{Step, acts_in}
-use Rattle.ghes_replay.specs.Kept.{Kept}
-use Rattle.ghes_replay.specs.Queue.{queue, acknowledged}
+use Rattle.ghes_serial.specs.History.{Step, acts_in}
+use Rattle.ghes_serial.specs.Kept.{Kept}
+use Rattle.ghes_serial.specs.Queue.{queue, acknowledged}
 
 -- what a call answered (own choice)
 abbrev pub outcome_text : Outcome → List ℕ

@@ -8,16 +8,17 @@ ghost use Rattle.ghes_replay.specs.Listing.{Lists};
 ghost use Rattle.ghes_script.specs.Script.{IsOfFirst};
 ghost use Rattle.ghes_replay.specs.Views.{done_of};
 
+use crate::Refusal;
 use crate::check::check_text;
 use crate::decode::decode_text;
 use crate::loading::{load_block, load_hest, load_injection, load_script};
 use crate::script_run::{Replayed, run_script};
 use crate::served::served;
-use crate::{Ledger, Refusal};
 use apei_einj::Einj;
 use apei_hest::{Ghes, Source};
 use ghes_outside::Files;
 use ghes_script::Line;
+use ghes_serial::Ledger;
 use std::alloc::Global;
 
 /// How many bytes a block has at most, whatever its source says.

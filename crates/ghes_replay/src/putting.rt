@@ -3,8 +3,9 @@ ghost use Rattle.ghes_outside.specs.Outside.{Rose, Appends, AppendsFront};
 ghost use Rattle.ghes_replay.specs.Seen.{sink_seen};
 ghost use Rattle.ghes_replay.specs.Run.{WasPut};
 
-use crate::{Ledger, RunEnd};
+use crate::RunEnd;
 use ghes_outside::{PutFailed, Sink};
+use ghes_serial::Ledger;
 
 /// How many bytes are put at once.
 const PIECE: usize = 4096;

@@ -13,8 +13,8 @@ use crate::doing::{Done, check, decode, replay};
 use crate::exit::{InputFile, MEMORY_LINE, Refusal};
 use crate::putting::end_with;
 use crate::task::{Task, task_of};
-use crate::{Ledger, PanicEntry};
 use ghes_outside::{Files, Sink};
+use ghes_serial::{Ledger, PanicEntry};
 use std::alloc::Global;
 
 /// How a run ended.

@@ -1,16 +1,15 @@
 ghost use Rattle.std.specs.Prelude.{◌≡◌, ◌<◌, ◌≤◌, ◌^◌, ◌+◌, ◌++◌, List, length, OnOk, IfOk};
 ghost use Rattle.std.specs.List.{AllByRecursion};
-ghost use Rattle.ghes_replay.specs.Execute.{executed, step_of};
-ghost use Rattle.ghes_replay.specs.History.{Step, act_of, script_end};
-ghost use Rattle.ghes_replay.specs.Lawful.{IsLawful};
+ghost use Rattle.ghes_serial.specs.Execute.{executed, step_of};
+ghost use Rattle.ghes_serial.specs.History.{Step, act_of, script_end};
+ghost use Rattle.ghes_serial.specs.Lawful.{IsLawful};
 ghost use Rattle.ghes_script.specs.Script.{IsOfFirst};
-ghost use Rattle.ghes_replay.specs.Sound.{IsSound};
+ghost use Rattle.ghes_serial.specs.Sound.{IsSound};
 ghost use Rattle.ghes_replay.specs.Text.{step_text, replay_text};
 
-use crate::Ledger;
-use crate::execute::Replay;
 use crate::text::{panic_text, step_text, summary_text};
 use ghes_script::Line;
+use ghes_serial::{Ledger, Replay};
 use std::alloc::{AllocError, Global};
 
 /// A script that was replayed to its end.

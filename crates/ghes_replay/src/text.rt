@@ -1,21 +1,27 @@
 ghost use Rattle.std.specs.Prelude.{◌≡◌, ◌++◌, OnOk, IfOk, length, count_by};
 ghost use Rattle.std.specs.String.{string_bytes};
 ghost use Rattle.std.specs.List.{flat_map, AllByRecursion};
-ghost use Rattle.ghes_replay.specs.Sound.{IsSoundTaken, IsSoundEntry};
+ghost use Rattle.ghes_serial.specs.Sound.{IsSoundTaken, IsSoundEntry};
 ghost use Rattle.ghes_replay.specs.Text.{outcome_text, call_text, taken_text, entry_line, entry_word, entry_text, panic_text, has_no_slot, was_delivered, was_dropped, raised_line, fates_line, totals_line, summary_by};
 
-use crate::{Call, Ledger, Outcome, PanicEntry, Taken};
 use ghes_report::{block_text, drop_text, malformed_lines, report_text};
+use ghes_serial::{Call, Ledger, Outcome, PanicEntry, Taken};
 use std::alloc::{AllocError, Global};
 use std::fmt;
 
-impl fmt::Display for Outcome {
+// How a call ended, as text.
+#[derive(Clone, Copy, Debug)]
+struct Ended {
+    outcome: Outcome,
+}
+
+impl fmt::Display for Ended {
     ghost use Rattle.std.specs.Prelude.{Some};
 
-    ghost output = { λ outcome. Some (outcome_text outcome) };
+    ghost output = { λ ended. Some (outcome_text ended.outcome) };
 
     fn fmt<W: fmt::Write>(&self, f: &mut fmt::Formatter<W>) -> fmt::Result {
-        match self {
+        match &self.outcome {
             Outcome::Nothing => f.write_str("nothing"),
             Outcome::Queued(number) => write!(f, "queued {number}"),
             Outcome::Malformed(number, reason) => write!(f, "malformed {number}: {reason}"),
@@ -29,8 +35,10 @@ impl fmt::Display for Outcome {
 fn call_text(alloc: Global, into: &mut Vec<u8>, id: u16, call: &Call) -> Result<(), AllocError>
     ensures { OnOk result (into.new.items ≡ into.old.items ++ call_text id call.entry.now) }
 {
-    let outcome = call.reply.outcome;
-    let line = format!(in alloc; "nmi {id}: {outcome}\n")?;
+    let ended = Ended {
+        outcome: call.reply.outcome,
+    };
+    let line = format!(in alloc; "nmi {id}: {ended}\n")?;
     into.extend_from_slice(line.as_bytes())
 }
 

@@ -1,6 +1,6 @@
 -- What the end takes was pending, and may be printed.
 use Rattle.std.proofs.Common.{None}
-use Rattle.ghes_replay.proofs.SoundLemmas.{taken_sound}
+use Rattle.ghes_serial.proofs.SoundLemmas.{taken_sound}
 use Rattle.ghes_replay.proofs.script_run.run_end.Goals as goal
 
 pub step_text-requires : goal.step_text-requires

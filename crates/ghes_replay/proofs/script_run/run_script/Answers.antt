@@ -1,8 +1,8 @@
 -- The history of the lines so far goes on line by line, and its end is lawful.
 use Rattle.std.proofs.Common.{◌≡◌, ◌≤◌, ◌+◌, [], ◌++◌, take, length, ap, ◌∙◌, arith, append_assoc, Some}
-use Rattle.ghes_replay.specs.Execute.{executed}
-use Rattle.ghes_replay.specs.History.{act_of}
-use Rattle.ghes_replay.specs.Lawful.{fatal_names}
+use Rattle.ghes_serial.specs.Execute.{executed}
+use Rattle.ghes_serial.specs.History.{act_of}
+use Rattle.ghes_serial.specs.Lawful.{fatal_names}
 use Rattle.ghes_replay.specs.Text.{panic_text, summary_by}
 use Rattle.ghes_replay.proofs.Finishing.{ending_of, executed_front, finishes}
 use Rattle.ghes_replay.proofs.Running.{runs_none, runs_more, runs_end, made_grows, not_stopped, was_stopped}

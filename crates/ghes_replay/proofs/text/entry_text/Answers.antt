@@ -1,5 +1,5 @@
 -- A block without a reason is well formed.
-use Rattle.ghes_replay.proofs.SoundLemmas.{sound_judges}
+use Rattle.ghes_serial.proofs.SoundLemmas.{sound_judges}
 use Rattle.ghes_replay.proofs.text.entry_text.Goals as goal
 
 pub block_text-requires : goal.block_text-requires

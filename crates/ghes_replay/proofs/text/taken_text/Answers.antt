@@ -1,6 +1,6 @@
 -- A delivered block is well formed.
 use Rattle.std.proofs.Common.{refl}
-use Rattle.ghes_replay.proofs.SoundLemmas.{sound_judges}
+use Rattle.ghes_serial.proofs.SoundLemmas.{sound_judges}
 use Rattle.ghes_replay.proofs.text.taken_text.Goals as goal
 
 pub report_text-requires : goal.report_text-requires

@@ -1,0 +1,13 @@
+pub mod Alike
+pub mod Asks
+pub mod Fates
+pub mod History
+pub mod Image
+pub mod Kept
+pub mod Lawful
+pub mod Names
+pub mod Outcomes
+pub mod Plan
+pub mod Queue
+pub mod Reports
+pub mod Turns

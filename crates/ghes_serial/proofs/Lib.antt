@@ -1,0 +1,12 @@
+pub mod DrainLemmas
+pub mod Facts
+pub mod FateLemmas
+pub mod Follows
+pub mod FollowsStep
+pub mod ImageLemmas
+pub mod KeptSteps
+pub mod LawfulEnd
+pub mod LawfulSteps
+pub mod OneHistory
+pub mod SoundLemmas
+pub mod ToldSteps
