@@ -2,7 +2,7 @@
 use Rattle.std.proofs.Common.{◌≡◌, ◌≤◌, ℕ, List, [], ◌++◌, length, take, drop, refl, sym, ap, subst, ◌∙◌}
 use Rattle.std.proofs.lemmas.List.{take-append-drop, drop_all}
 use Rattle.ghes_replay.specs.declared.execute.Replay.{Replay}
-use Rattle.ghes_script.specs.declared.line.Line.{Line}
+use Rattle.ghes_plain_script.specs.declared.line.Line.{Line}
 use Rattle.ghes_replay.specs.Execute.{executed, step_of}
 use Rattle.ghes_replay.specs.History.{Step, script_end}
 use Rattle.ghes_replay.specs.Lawful.{fatal_names, AreExecuted, IsLawful}

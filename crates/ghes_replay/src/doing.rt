@@ -5,7 +5,7 @@ ghost use Rattle.ghes_replay.specs.Seen.{files_seen};
 ghost use Rattle.ghes_replay.specs.Task.{Replay, Check, Decode};
 ghost use Rattle.ghes_replay.specs.Run.{RunsLines, LoadsSource, Does};
 ghost use Rattle.ghes_replay.specs.Listing.{Lists};
-ghost use Rattle.ghes_script.specs.Script.{IsOfFirst};
+ghost use Rattle.ghes_plain_script.specs.Script.{IsOfFirst};
 ghost use Rattle.ghes_replay.specs.Views.{done_of};
 
 use crate::check::check_text;
@@ -17,7 +17,7 @@ use crate::{Ledger, Refusal};
 use apei_einj::Einj;
 use apei_hest::{Ghes, Source};
 use ghes_outside::Files;
-use ghes_script::Line;
+use ghes_plain_script::Line;
 use std::alloc::Global;
 
 /// How many bytes a block has at most, whatever its source says.

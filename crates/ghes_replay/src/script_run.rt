@@ -3,14 +3,14 @@ ghost use Rattle.std.specs.List.{AllByRecursion};
 ghost use Rattle.ghes_replay.specs.Execute.{executed, step_of};
 ghost use Rattle.ghes_replay.specs.History.{Step, act_of, script_end};
 ghost use Rattle.ghes_replay.specs.Lawful.{IsLawful};
-ghost use Rattle.ghes_script.specs.Script.{IsOfFirst};
+ghost use Rattle.ghes_plain_script.specs.Script.{IsOfFirst};
 ghost use Rattle.ghes_replay.specs.Sound.{IsSound};
 ghost use Rattle.ghes_replay.specs.Text.{step_text, replay_text};
 
 use crate::Ledger;
 use crate::execute::Replay;
 use crate::text::{panic_text, step_text, summary_text};
-use ghes_script::Line;
+use ghes_plain_script::Line;
 use std::alloc::{AllocError, Global};
 
 /// A script that was replayed to its end.
