@@ -3,8 +3,8 @@ use Rattle.std.proofs.Common.{◌≡◌, ◌⊎◌, ℕ, List, Option, Some, Non
 use Rattle.apei_hest.specs.declared.source.Source.{Source}
 use Rattle.ghes_outside.specs.Outside.{Rose}
 use Rattle.ghes_outside.specs.declared.files.LoadError.TheVariants as loads
-use Rattle.ghes_script.specs.Script.{IsScript}
-use Rattle.ghes_script.proofs.OneReading.{not_both}
+use Rattle.ghes_plain_script.specs.Script.{IsScript}
+use Rattle.ghes_plain_script.proofs.OneReading.{not_both}
 use Rattle.apei_hest.specs.declared.source.Ghes.{Ghes}
 use Rattle.ghes_replay.specs.declared.exit.InputFile.TheVariants as files
 use Rattle.ghes_replay.specs.declared.exit.Refusal.{Refusal}

@@ -9,10 +9,10 @@ use Rattle.apei_hest.specs.declared.source.Ghes.{Ghes}
 use Rattle.apei_hest.specs.declared.source.Source.{Source}
 use Rattle.apei_hest.proofs.LawLemmas.{one_judgement}
 use Rattle.ghes_outside.specs.Outside.{Agrees, IsLonger}
-use Rattle.ghes_script.specs.declared.error.BadLine.{BadLine}
-use Rattle.ghes_script.specs.declared.line.Line.{Line}
-use Rattle.ghes_script.specs.Script.{IsScript, IsRefusedAt}
-use Rattle.ghes_script.proofs.OneReading.{not_both}
+use Rattle.ghes_plain_script.specs.declared.error.BadLine.{BadLine}
+use Rattle.ghes_plain_script.specs.declared.line.Line.{Line}
+use Rattle.ghes_plain_script.specs.Script.{IsScript, IsRefusedAt}
+use Rattle.ghes_plain_script.proofs.OneReading.{not_both}
 use Rattle.ghes_replay.specs.Listing.{HasInjection}
 use Rattle.ghes_replay.specs.Loading.{HasHest, HasTable}
 use Rattle.ghes_replay.specs.Seen.{FilesSeen, IsLoaded}

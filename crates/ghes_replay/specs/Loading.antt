@@ -6,12 +6,12 @@ use Rattle.apei_hest.specs.declared.source.Source.{Source}
 use Rattle.ghes_outside.specs.Outside.{Rose, IsLonger}
 use Rattle.ghes_outside.specs.declared.files.LoadError.{LoadError}
 use Rattle.ghes_outside.specs.declared.files.LoadError.TheVariants as loads
-use Rattle.ghes_script.specs.declared.line.Line.{Line}
+use Rattle.ghes_plain_script.specs.declared.line.Line.{Line}
 use Rattle.ghes_replay.specs.declared.exit.InputFile.{InputFile}
 use Rattle.ghes_replay.specs.declared.exit.InputFile.TheVariants as files
 use Rattle.ghes_replay.specs.declared.exit.Refusal.{Refusal}
 use Rattle.ghes_replay.specs.declared.exit.Refusal.TheVariants as refusals
-use Rattle.ghes_script.specs.Script.{IsScript, IsRefusedAt}
+use Rattle.ghes_plain_script.specs.Script.{IsScript, IsRefusedAt}
 use Rattle.ghes_replay.specs.Seen.{FilesSeen, table_limit, script_limit, AddsNames, Loads, IsLoaded}
 use Rattle.ghes_replay.specs.Served.{served}
 

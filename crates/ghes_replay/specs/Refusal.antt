@@ -5,8 +5,8 @@ use Rattle.apei_einj.specs.Text.{einj_error_text}
 use Rattle.apei_hest.specs.Text.{hest_error_text}
 use Rattle.ghes_outside.specs.declared.files.LoadError.{LoadError}
 use Rattle.ghes_outside.specs.declared.files.LoadError.TheVariants as loads
-use Rattle.ghes_script.specs.Text.{kind_text}
-use Rattle.ghes_script.specs.declared.error.BadLine.{BadLine}
+use Rattle.ghes_plain_script.specs.Text.{kind_text}
+use Rattle.ghes_plain_script.specs.declared.error.BadLine.{BadLine}
 use Rattle.ghes_replay.specs.declared.exit.InputFile.{InputFile}
 use Rattle.ghes_replay.specs.declared.exit.InputFile.TheVariants as files
 use Rattle.ghes_replay.specs.declared.exit.Refusal.{Refusal}

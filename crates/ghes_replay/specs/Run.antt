@@ -4,7 +4,7 @@ use Rattle.std.specs.List.{list_any}
 use Rattle.apei_hest.specs.declared.source.Ghes.{Ghes}
 use Rattle.apei_hest.specs.declared.source.Source.{Source}
 use Rattle.ghes_outside.specs.Outside.{Rose, Appends, AppendsFront}
-use Rattle.ghes_script.specs.declared.line.Line.{Line}
+use Rattle.ghes_plain_script.specs.declared.line.Line.{Line}
 use Rattle.ghes_replay.specs.declared.exit.InputFile.TheVariants as files
 use Rattle.ghes_replay.specs.declared.exit.Refusal.{Refusal}
 use Rattle.ghes_replay.specs.declared.exit.Refusal.TheVariants as refusals

@@ -7,9 +7,9 @@ use Rattle.apei_hest.specs.declared.error.HestError.{HestError}
 use Rattle.apei_hest.specs.declared.source.Ghes.{Ghes}
 use Rattle.apei_hest.specs.declared.source.Source.{Source}
 use Rattle.ghes_outside.specs.Outside.{Rose}
-use Rattle.ghes_script.specs.declared.error.BadLine.{BadLine}
-use Rattle.ghes_script.specs.declared.line.Line.{Line}
-use Rattle.ghes_script.specs.Script.{IsScript, IsRefusedAt}
+use Rattle.ghes_plain_script.specs.declared.error.BadLine.{BadLine}
+use Rattle.ghes_plain_script.specs.declared.line.Line.{Line}
+use Rattle.ghes_plain_script.specs.Script.{IsScript, IsRefusedAt}
 use Rattle.ghes_replay.specs.Seen.{FilesSeen, SinkSeen, table_limit, script_limit, block_limit}
 use Rattle.ghes_replay.specs.Served.{served}
 use Rattle.ghes_replay.specs.Task.{Task, Replay, Check, Decode, IsTask, IsEinjName}

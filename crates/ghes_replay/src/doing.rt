@@ -5,7 +5,7 @@ ghost use Rattle.ghes_replay.specs.Seen.{files_seen};
 ghost use Rattle.ghes_replay.specs.Task.{Replay, Check, Decode};
 ghost use Rattle.ghes_replay.specs.Run.{RunsLines, LoadsSource, Does};
 ghost use Rattle.ghes_replay.specs.Listing.{Lists};
-ghost use Rattle.ghes_script.specs.Script.{IsOfFirst};
+ghost use Rattle.ghes_plain_script.specs.Script.{IsOfFirst};
 ghost use Rattle.ghes_replay.specs.Views.{done_of};
 
 use crate::Refusal;

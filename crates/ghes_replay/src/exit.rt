@@ -7,7 +7,7 @@ ghost use Rattle.ghes_replay.specs.Refusal.{status_of, file_name, load_error_tex
 use apei_einj::EinjError;
 use apei_hest::HestError;
 use ghes_outside::LoadError;
-use ghes_script::BadLine;
+use ghes_plain_script::BadLine;
 use std::alloc::{AllocError, Global};
 
 /// The files that a run reads.

@@ -9,7 +9,7 @@ use crate::{InputFile, Refusal};
 use apei_einj::{Einj, EinjError};
 use apei_hest::{Ghes, Hest, HestError};
 use ghes_outside::{Files, LoadError};
-use ghes_script::{Line, ScriptError, read_script};
+use ghes_plain_script::{Line, ScriptError, read_script};
 use std::alloc::Global;
 
 /// How many bytes a table may have, and an injection table too.

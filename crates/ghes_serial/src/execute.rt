@@ -6,7 +6,7 @@ use crate::call::{Answer, call};
 use crate::pending::Pending;
 use crate::{AckState, Call, Ledger, Reply};
 use apei_base::Bytes;
-use ghes_script::{Line, What};
+use ghes_plain_script::{Line, What};
 use std::alloc::{AllocError, Global};
 
 /// The state of a replay between two lines.

@@ -1,11 +1,11 @@
 -- A script that is read up to a line: whatever the rest spells completes the lines so far.
 use Rattle.std.proofs.Common.{◌≡◌, ℕ, ◌+◌, List, [], ◌∷◌, ◌++◌, length, sym, subst, append_assoc, append-nil}
 use Rattle.std.proofs.lemmas.List.{length_push}
-use Rattle.ghes_script.specs.declared.error.BadLine.{BadLine}
-use Rattle.ghes_script.specs.declared.error.ScriptKind.{ScriptKind}
-use Rattle.ghes_script.specs.declared.line.Line.{Line}
-use Rattle.ghes_script.specs.declared.line.What.{What}
-use Rattle.ghes_script.specs.Script.{IsLineOf, IsKindOf, IsFirstLine, SpellsFrom, RefusesFrom, IsScript, IsRefusedAt}
+use Rattle.ghes_plain_script.specs.declared.error.BadLine.{BadLine}
+use Rattle.ghes_plain_script.specs.declared.error.ScriptKind.{ScriptKind}
+use Rattle.ghes_plain_script.specs.declared.line.Line.{Line}
+use Rattle.ghes_plain_script.specs.declared.line.What.{What}
+use Rattle.ghes_plain_script.specs.Script.{IsLineOf, IsKindOf, IsFirstLine, SpellsFrom, RefusesFrom, IsScript, IsRefusedAt}
 
 pub record Scans (id : ℕ) (bytes : List ℕ) (lines : List Line) (rest : List ℕ) : Type 0 where
   pub spells : (more : List Line) → SpellsFrom id (length lines + 1) rest more → SpellsFrom id 1 bytes (lines ++ more)

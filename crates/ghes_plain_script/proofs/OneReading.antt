@@ -1,17 +1,17 @@
 -- A script is read in one way: its lines are determined, no script has a bad line, and the first bad line is determined.
 use Rattle.std.proofs.Common.{◌≡◌, ◌≢◌, ◌<◌, ℕ, ◌+◌, List, [], ◌∷◌, ◌++◌, length, ◌⊎◌, inl, inr, Ok, IsErr, refl, sym, ap, subst, ◌∙◌, arith, codes}
 use Rattle.std.specs.List.{AllByRecursion}
-use Rattle.ghes_script.specs.declared.error.BadLine.{BadLine}
-use Rattle.ghes_script.specs.declared.error.ScriptKind.{ScriptKind}
-use Rattle.ghes_script.specs.declared.error.ScriptKind.TheVariants.{Command, Hex, Range}
-use Rattle.ghes_script.specs.declared.line.Line.{Line}
-use Rattle.ghes_script.specs.declared.line.What.{What}
-use Rattle.ghes_script.specs.declared.line.What.TheVariants.{Raise, Nmi, Work}
+use Rattle.ghes_plain_script.specs.declared.error.BadLine.{BadLine}
+use Rattle.ghes_plain_script.specs.declared.error.ScriptKind.{ScriptKind}
+use Rattle.ghes_plain_script.specs.declared.error.ScriptKind.TheVariants.{Command, Hex, Range}
+use Rattle.ghes_plain_script.specs.declared.line.Line.{Line}
+use Rattle.ghes_plain_script.specs.declared.line.What.{What}
+use Rattle.ghes_plain_script.specs.declared.line.What.TheVariants.{Raise, Nmi, Work}
 use Rattle.hex.specs.Hex.{decode_of}
 use Rattle.std.proofs.lemmas.Bool.{eqb-false}
 use Rattle.std.proofs.lemmas.List.{append_cancel_left}
-use Rattle.ghes_script.specs.Spelling.{nmi_line, raise_front, is_block}
-use Rattle.ghes_script.specs.Script.{IsBlock, IsNoBlock, IsRaise, IsLineOf, IsKindOf, IsFirstLine, SpellsFrom, RefusesFrom}
+use Rattle.ghes_plain_script.specs.Spelling.{nmi_line, raise_front, is_block}
+use Rattle.ghes_plain_script.specs.Script.{IsBlock, IsNoBlock, IsRaise, IsLineOf, IsKindOf, IsFirstLine, SpellsFrom, RefusesFrom}
 
 -- no byte is a line feed
 abbrev OneLine : List ℕ → Type 0

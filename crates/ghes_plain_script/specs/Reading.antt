@@ -1,12 +1,12 @@
 -- What reading a script answers.
 use Rattle.std.specs.Prelude.{ℕ, List, Result, Ok, Err, IsErr}
 use Rattle.hex.specs.Hex.{decode_of}
-use Rattle.ghes_script.specs.declared.error.ScriptError.{ScriptError}
-use Rattle.ghes_script.specs.declared.error.ScriptError.TheVariants as errors
-use Rattle.ghes_script.specs.declared.error.ScriptKind.{ScriptKind}
-use Rattle.ghes_script.specs.declared.error.ScriptKind.TheVariants.{Command, Hex, Range}
-use Rattle.ghes_script.specs.declared.line.What.{What}
-use Rattle.ghes_script.specs.Script.{IsBlock, IsNoBlock, IsLineOf, IsKindOf, IsRefusedAt}
+use Rattle.ghes_plain_script.specs.declared.error.ScriptError.{ScriptError}
+use Rattle.ghes_plain_script.specs.declared.error.ScriptError.TheVariants as errors
+use Rattle.ghes_plain_script.specs.declared.error.ScriptKind.{ScriptKind}
+use Rattle.ghes_plain_script.specs.declared.error.ScriptKind.TheVariants.{Command, Hex, Range}
+use Rattle.ghes_plain_script.specs.declared.line.What.{What}
+use Rattle.ghes_plain_script.specs.Script.{IsBlock, IsNoBlock, IsLineOf, IsKindOf, IsRefusedAt}
 
 -- the block that a word spells, or which kind of bad word it is
 abbrev pub ReadsBlock : List ℕ → Result (List ℕ) ScriptKind → Type 0

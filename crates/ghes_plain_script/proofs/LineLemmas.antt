@@ -1,8 +1,8 @@
 -- When a text is a line `raise` of the source.
 use Rattle.std.proofs.Common.{◌≡◌, ◌≢◌, ℕ, List, ◌++◌, sym, ap, subst, ◌∙◌}
 use Rattle.std.proofs.lemmas.List.{append_cancel_left}
-use Rattle.ghes_script.specs.Spelling.{IsWord, raise_front}
-use Rattle.ghes_script.specs.Script.{IsRaise, IsNoRaise}
+use Rattle.ghes_plain_script.specs.Spelling.{IsWord, raise_front}
+use Rattle.ghes_plain_script.specs.Script.{IsRaise, IsNoRaise}
 
 -- a text without the front of a line `raise`
 pub no_front : (id : ℕ) (text front : List ℕ) → front ≡ raise_front id → ((rest : List ℕ) → text ≢ front ++ rest) → IsNoRaise id text

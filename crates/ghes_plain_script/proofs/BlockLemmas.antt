@@ -2,11 +2,11 @@
 use Rattle.std.proofs.Common.{◌≡◌, ◌≢◌, ◌≤◌, ℕ, ◌+◌, List, [], ◌∷◌, length, true, arith}
 use Rattle.std.specs.List.{AllByRecursion}
 use Rattle.byteorder.specs.Endian.{little_number}
-use Rattle.ghes_script.specs.declared.line.Line.{Line}
-use Rattle.ghes_script.specs.declared.line.What.{What}
-use Rattle.ghes_script.specs.declared.line.What.TheVariants.{Raise, Nmi, Work}
-use Rattle.ghes_script.specs.Spelling.{is_block}
-use Rattle.ghes_script.specs.Script.{IsLineOf, RaisesBlock, SpellsFrom}
+use Rattle.ghes_plain_script.specs.declared.line.Line.{Line}
+use Rattle.ghes_plain_script.specs.declared.line.What.{What}
+use Rattle.ghes_plain_script.specs.declared.line.What.TheVariants.{Raise, Nmi, Work}
+use Rattle.ghes_plain_script.specs.Spelling.{is_block}
+use Rattle.ghes_plain_script.specs.Script.{IsLineOf, RaisesBlock, SpellsFrom}
 
 -- what the test of a block says
 pub block_facts : (block : List ℕ) → is_block block ≡ true → (20 ≤ length block) × (length block ≤ 65536) × (little_number 4 block ≢ 0)

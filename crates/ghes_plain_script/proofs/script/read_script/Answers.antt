@@ -2,8 +2,8 @@
 use Rattle.std.proofs.Common.{◌≡◌, ◌+◌, [], ◌∷◌, ◌++◌, length, arith, sym, ◌∙◌}
 use Rattle.std.proofs.lemmas.Bool.{eqb-true}
 use Rattle.std.proofs.lemmas.List.{nil_from_length, length_push}
-use Rattle.ghes_script.proofs.Scanning.{scans_more, scans_end, scans_bad}
-use Rattle.ghes_script.proofs.script.read_script.Goals as goal
+use Rattle.ghes_plain_script.proofs.Scanning.{scans_more, scans_end, scans_bad}
+use Rattle.ghes_plain_script.proofs.script.read_script.Goals as goal
 
 pub returns-in-Err-clause-refused : goal.returns-in-Err-clause-refused
 returns-in-Err-clause-refused c =

@@ -3,13 +3,13 @@ use Rattle.std.specs.Prelude.{◌≡◌, ◌≢◌, ◌<◌, ◌≤◌, ℕ, ◌
 use Rattle.std.specs.List.{AllByRecursion}
 use Rattle.byteorder.specs.Endian.{little_number}
 use Rattle.hex.specs.Hex.{decode_of}
-use Rattle.ghes_script.specs.Spelling.{is_block, IsWord, nmi_line, raise_front}
-use Rattle.ghes_script.specs.declared.error.BadLine.{BadLine}
-use Rattle.ghes_script.specs.declared.error.ScriptKind.{ScriptKind}
-use Rattle.ghes_script.specs.declared.error.ScriptKind.TheVariants.{Command, Hex, Range}
-use Rattle.ghes_script.specs.declared.line.Line.{Line}
-use Rattle.ghes_script.specs.declared.line.What.{What}
-use Rattle.ghes_script.specs.declared.line.What.TheVariants.{Raise, Nmi, Work}
+use Rattle.ghes_plain_script.specs.Spelling.{is_block, IsWord, nmi_line, raise_front}
+use Rattle.ghes_plain_script.specs.declared.error.BadLine.{BadLine}
+use Rattle.ghes_plain_script.specs.declared.error.ScriptKind.{ScriptKind}
+use Rattle.ghes_plain_script.specs.declared.error.ScriptKind.TheVariants.{Command, Hex, Range}
+use Rattle.ghes_plain_script.specs.declared.line.Line.{Line}
+use Rattle.ghes_plain_script.specs.declared.line.What.{What}
+use Rattle.ghes_plain_script.specs.declared.line.What.TheVariants.{Raise, Nmi, Work}
 
 -- a text has the form of a line `raise` of the source, with this word (own choice)
 pub record IsRaise (id : ℕ) (word text : List ℕ) : Type 0 where

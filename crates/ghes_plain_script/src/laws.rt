@@ -1,9 +1,9 @@
 //! Laws over the definitions, each the contract of a function that does nothing.
 ghost use Rattle.std.specs.Prelude.{◌≡◌, ℕ, List};
 ghost use Rattle.std.specs.List.{AllByRecursion};
-ghost use Rattle.ghes_script.specs.declared.error.BadLine.{BadLine};
-ghost use Rattle.ghes_script.specs.declared.line.Line.{Line};
-ghost use Rattle.ghes_script.specs.Script.{IsScript, IsRefusedAt, RaisesBlock};
+ghost use Rattle.ghes_plain_script.specs.declared.error.BadLine.{BadLine};
+ghost use Rattle.ghes_plain_script.specs.declared.line.Line.{Line};
+ghost use Rattle.ghes_plain_script.specs.Script.{IsScript, IsRefusedAt, RaisesBlock};
 
 /// Bytes are a script of one list of lines at most, what is a script is not refused, and what is refused is refused at
 /// one line and for one kind.

@@ -1,5 +1,5 @@
-use Rattle.ghes_script.proofs.OneReading.{same_lines, not_both, one_refusal}
-use Rattle.ghes_script.proofs.laws.a_script_is_read_in_one_way.Goals as goal
+use Rattle.ghes_plain_script.proofs.OneReading.{same_lines, not_both, one_refusal}
+use Rattle.ghes_plain_script.proofs.laws.a_script_is_read_in_one_way.Goals as goal
 
 pub returns-clause-same : goal.returns-clause-same
 returns-clause-same c = λ id bytes first second. same_lines id 1 bytes first second

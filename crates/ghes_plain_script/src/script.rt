@@ -1,7 +1,7 @@
 ghost use Rattle.std.specs.Prelude.{◌≡◌, ◌<◌, ◌≤◌, ◌^◌, ◌-◌, ◌↔◌, length, IfOk, IfErr, IsTrue, MatchOption, vec_len};
-ghost use Rattle.ghes_script.specs.Spelling.{is_block, IsWord};
-ghost use Rattle.ghes_script.specs.Script.{IsRaise, IsNoRaise, IsFirstLine, IsScript};
-ghost use Rattle.ghes_script.specs.Reading.{ReadsBlock, ReadsLine, BlamesLine};
+ghost use Rattle.ghes_plain_script.specs.Spelling.{is_block, IsWord};
+ghost use Rattle.ghes_plain_script.specs.Script.{IsRaise, IsNoRaise, IsFirstLine, IsScript};
+ghost use Rattle.ghes_plain_script.specs.Reading.{ReadsBlock, ReadsLine, BlamesLine};
 
 use crate::forms::Forms;
 use crate::{BadLine, Line, ScriptError, ScriptKind, What};

@@ -16,7 +16,7 @@ pub enum ScriptKind {
 
 impl fmt::Display for ScriptKind {
     ghost use Rattle.std.specs.Prelude.{Some};
-    ghost use Rattle.ghes_script.specs.Text.{kind_text};
+    ghost use Rattle.ghes_plain_script.specs.Text.{kind_text};
 
     ghost output = { λ kind. Some (kind_text kind) };
 
@@ -46,7 +46,7 @@ pub enum ScriptError {
 
 impl From<AllocError> for ScriptError {
     ghost use Rattle.std.specs.Prelude.{◌≡◌};
-    ghost use Rattle.ghes_script.specs.declared.error.ScriptError.TheVariants.{OutOfMemory};
+    ghost use Rattle.ghes_plain_script.specs.declared.error.ScriptError.TheVariants.{OutOfMemory};
 
     ghost from_gives = { λ _ e. e ≡ OutOfMemory };
 
@@ -57,7 +57,7 @@ impl From<AllocError> for ScriptError {
 
 impl<T: Drop> From<AllocFailed<T>> for ScriptError {
     ghost use Rattle.std.specs.Prelude.{◌≡◌};
-    ghost use Rattle.ghes_script.specs.declared.error.ScriptError.TheVariants.{OutOfMemory};
+    ghost use Rattle.ghes_plain_script.specs.declared.error.ScriptError.TheVariants.{OutOfMemory};
 
     ghost from_gives = { λ _ e. e ≡ OutOfMemory };
 

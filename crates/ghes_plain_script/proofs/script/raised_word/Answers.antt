@@ -2,9 +2,9 @@
 use Rattle.std.proofs.Common.{◌∙◌}
 use Rattle.std.proofs.lemmas.Bool.Decides.{Decides-eqb}
 use Rattle.std.proofs.lemmas.Slice.Eq.{strip_prefix_is}
-use Rattle.ghes_script.proofs.LineLemmas.{no_front, with_word, without_word}
-use Rattle.ghes_script.proofs.script.raised_word.Goals as goal
-use Rattle.ghes_script.proofs.script.raised_word.Goals.{in_default-via-in-Some+else-is_word, in_default-via-in_default}
+use Rattle.ghes_plain_script.proofs.LineLemmas.{no_front, with_word, without_word}
+use Rattle.ghes_plain_script.proofs.script.raised_word.Goals as goal
+use Rattle.ghes_plain_script.proofs.script.raised_word.Goals.{in_default-via-in-Some+else-is_word, in_default-via-in_default}
 
 pub returns-in-Some : goal.returns-in-Some
 returns-in-Some c =

@@ -1,6 +1,6 @@
 ghost use Rattle.std.specs.Prelude.{◌≡◌, IfOk};
 ghost use Rattle.std.specs.String.{string_bytes};
-ghost use Rattle.ghes_script.specs.Spelling.{nmi_line, raise_front};
+ghost use Rattle.ghes_plain_script.specs.Spelling.{nmi_line, raise_front};
 
 use std::alloc::{AllocError, Global};
 

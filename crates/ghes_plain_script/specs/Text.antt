@@ -1,7 +1,7 @@
 -- The words for the kinds of a bad line, with their numbers (own choice).
 use Rattle.std.specs.Prelude.{ℕ, List, codes}
-use Rattle.ghes_script.specs.declared.error.ScriptKind.{ScriptKind}
-use Rattle.ghes_script.specs.declared.error.ScriptKind.TheVariants.{Command, Hex, Range}
+use Rattle.ghes_plain_script.specs.declared.error.ScriptKind.{ScriptKind}
+use Rattle.ghes_plain_script.specs.declared.error.ScriptKind.TheVariants.{Command, Hex, Range}
 
 -- the words for the kind of a bad line
 abbrev pub kind_text : ScriptKind → List ℕ
