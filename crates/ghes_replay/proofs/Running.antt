@@ -4,16 +4,16 @@ use Rattle.std.specs.List.{AllByRecursion}
 use Rattle.std.proofs.lemmas.Bool.{false≢true, eqb-true}
 use Rattle.std.proofs.lemmas.List.{map-append, length-append, take_more, nil_from_length}
 use Rattle.ghes_serial.specs.declared.execute.Replay.{Replay}
-use Rattle.ghes_script.specs.declared.line.Line.{Line}
-use Rattle.ghes_script.specs.declared.line.What.{What}
-use Rattle.ghes_script.specs.declared.line.What.TheVariants.{Raise, Nmi, Work}
+use Rattle.ghes_plain_script.specs.declared.line.Line.{Line}
+use Rattle.ghes_plain_script.specs.declared.line.What.{What}
+use Rattle.ghes_plain_script.specs.declared.line.What.TheVariants.{Raise, Nmi, Work}
 use Rattle.ghes_serial.specs.declared.ledger.PanicEntry.{PanicEntry}
 use Rattle.ghes_serial.specs.declared.pending.Packet.{Packet}
 use Rattle.ghes_serial.specs.Blocks.{Raised}
 use Rattle.ghes_serial.specs.Kept.{Kept, nothing_kept}
 use Rattle.ghes_serial.specs.Execute.{executed, acted, outcome_now, step_of}
 use Rattle.ghes_serial.specs.History.{Step, act_of, script_end, acts_of, acts_in}
-use Rattle.ghes_script.specs.Script.{IsOfFirst}
+use Rattle.ghes_plain_script.specs.Script.{IsOfFirst}
 use Rattle.ghes_replay.specs.Text.{step_text, history_text}
 use Rattle.ghes_serial.proofs.Facts.{cond_nil}
 use Rattle.ghes_serial.proofs.Follows.{Follows}

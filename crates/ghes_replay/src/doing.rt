@@ -17,7 +17,7 @@ use crate::served::served;
 use apei_einj::Einj;
 use apei_hest::{Ghes, Source};
 use ghes_outside::Files;
-use ghes_script::Line;
+use ghes_plain_script::Line;
 use ghes_serial::Ledger;
 use std::alloc::Global;
 

@@ -3,12 +3,12 @@ ghost use Rattle.std.specs.List.{AllByRecursion};
 ghost use Rattle.ghes_serial.specs.Execute.{executed, step_of};
 ghost use Rattle.ghes_serial.specs.History.{Step, act_of, script_end};
 ghost use Rattle.ghes_serial.specs.Lawful.{IsLawful};
-ghost use Rattle.ghes_script.specs.Script.{IsOfFirst};
+ghost use Rattle.ghes_plain_script.specs.Script.{IsOfFirst};
 ghost use Rattle.ghes_serial.specs.Sound.{IsSound};
 ghost use Rattle.ghes_replay.specs.Text.{step_text, replay_text};
 
 use crate::text::{panic_text, step_text, summary_text};
-use ghes_script::Line;
+use ghes_plain_script::Line;
 use ghes_serial::{Ledger, Replay};
 use std::alloc::{AllocError, Global};
 

@@ -5,7 +5,7 @@ use Rattle.std.specs.List.{flat_map, range_with_len, AllByRecursion}
 use Rattle.std.proofs.lemmas.Bool.{eqb-true, eq-eqb, ne_eqb}
 use Rattle.std.proofs.lemmas.List.{length-append, length-take}
 use Rattle.std.proofs.lemmas.List.Concat.{flat_map-append}
-use Rattle.ghes_script.specs.declared.line.Line.{Line}
+use Rattle.ghes_plain_script.specs.declared.line.Line.{Line}
 use Rattle.ghes_serial.specs.declared.ledger.Call.{Call}
 use Rattle.ghes_serial.specs.declared.pending.Packet.{Packet}
 use Rattle.ghes_serial.specs.Fates.{bytes_if, entries_of}

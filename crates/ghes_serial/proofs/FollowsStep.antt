@@ -1,14 +1,14 @@
 -- A history and its state go on by one act.
 use Rattle.std.proofs.Common.{◌≡◌, ℕ, ◌+◌, List, [], ◌∷◌, refl, sym, ap, ◌∙◌, subst, Option, Some, None}
 use Rattle.ghes_serial.specs.declared.execute.Replay.{Replay}
-use Rattle.ghes_script.specs.declared.line.What.{What}
-use Rattle.ghes_script.specs.declared.line.What.TheVariants.{Raise, Nmi, Work}
+use Rattle.ghes_plain_script.specs.declared.line.What.{What}
+use Rattle.ghes_plain_script.specs.declared.line.What.TheVariants.{Raise, Nmi, Work}
 use Rattle.ghes_serial.specs.Call.{block_of, is_full, outcome_of, call_at}
 use Rattle.ghes_serial.specs.Execute.{executed, step_of, answered, marked, worked}
 use Rattle.ghes_serial.specs.History.{Step, calls_in}
 use Rattle.ghes_serial.specs.Image.{image_of, image_reason, is_fatal}
 use Rattle.ghes_serial.specs.Lawful.{fatal_names}
-use Rattle.ghes_script.specs.Script.{IsOfFirst}
+use Rattle.ghes_plain_script.specs.Script.{IsOfFirst}
 use Rattle.ghes_serial.proofs.Follows.{IsKept, Follows}
 use Rattle.ghes_serial.proofs.KeptSteps.{no_fatal, kept_raise, kept_standing, kept_nothing, kept_work}
 use Rattle.ghes_serial.proofs.ToldSteps.{told_raise, told_call, told_work}

@@ -3,7 +3,7 @@ use Rattle.std.proofs.Common.{◌≡◌, ℕ, ◌+◌, Bool, true, false, cond, 
 use Rattle.std.specs.List.{range_with_len}
 use Rattle.std.proofs.lemmas.Bool.{eqb-true}
 use Rattle.ghes_serial.specs.declared.execute.Replay.{Replay}
-use Rattle.ghes_script.specs.declared.line.Line.{Line}
+use Rattle.ghes_plain_script.specs.declared.line.Line.{Line}
 use Rattle.ghes_serial.specs.Call.{packet_for}
 use Rattle.ghes_serial.specs.History.{Step, acts_of, acts_in}
 use Rattle.ghes_serial.specs.Queue.{queue, numbers_of, acknowledged}

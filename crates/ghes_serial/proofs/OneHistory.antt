@@ -1,7 +1,7 @@
 -- The lines, the lists and the marks of a ledger determine its history.
 use Rattle.std.proofs.Common.{◌≡◌, List, [], ◌∷◌, ◌++◌, ◌+◌, map, length, take, drop, refl, sym, ap, subst, ◌∙◌, arith, ℕ}
 use Rattle.std.proofs.lemmas.List.{length_push, length-map, same_from_push, take_at, drop_at}
-use Rattle.ghes_script.specs.declared.line.Line.{Line}
+use Rattle.ghes_plain_script.specs.declared.line.Line.{Line}
 use Rattle.ghes_serial.specs.declared.ledger.Call.{Call}
 use Rattle.ghes_serial.specs.declared.ledger.Taken.{Taken}
 use Rattle.ghes_serial.specs.History.{Act, Step, act_of, script_end, acts_in, calls_in, taken_in, marks_in, Tells}

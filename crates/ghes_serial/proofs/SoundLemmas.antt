@@ -12,8 +12,8 @@ use Rattle.ghes_serial.specs.declared.ledger.Taken.{Taken}
 use Rattle.ghes_serial.specs.declared.pending.Packet.{Packet}
 use Rattle.ghes_serial.specs.Call.{packet_for}
 use Rattle.ghes_serial.specs.declared.execute.Replay.{Replay}
-use Rattle.ghes_script.specs.declared.line.What.{What}
-use Rattle.ghes_script.specs.declared.line.What.TheVariants.{Raise, Nmi, Work}
+use Rattle.ghes_plain_script.specs.declared.line.What.{What}
+use Rattle.ghes_plain_script.specs.declared.line.What.TheVariants.{Raise, Nmi, Work}
 use Rattle.ghes_serial.specs.Execute.{takings, acted, worked}
 use Rattle.ghes_serial.specs.Image.{padded, image_of, image_reason_by}
 use Rattle.ghes_serial.specs.Kept.{taken_by_reason, reports_of_packet, panic_entry}

@@ -2,8 +2,8 @@
 use Rattle.std.proofs.Common.{◌≡◌, ℕ, cond, eqb, List, [], ◌∷◌, ◌++◌, length, refl, sym, ap, ◌∙◌, append-nil, Option, Some}
 use Rattle.std.proofs.lemmas.List.Concat.{flat_map-append}
 use Rattle.ghes_serial.specs.declared.execute.Replay.{Replay}
-use Rattle.ghes_script.specs.declared.line.What.{What}
-use Rattle.ghes_script.specs.declared.line.What.TheVariants.{Raise, Nmi}
+use Rattle.ghes_plain_script.specs.declared.line.What.{What}
+use Rattle.ghes_plain_script.specs.declared.line.What.TheVariants.{Raise, Nmi}
 use Rattle.ghes_serial.specs.declared.ledger.Call.{Call}
 use Rattle.ghes_serial.specs.declared.ledger.Taken.{Taken}
 use Rattle.ghes_serial.specs.declared.ledger.Mark.{Mark}

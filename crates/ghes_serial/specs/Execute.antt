@@ -2,8 +2,8 @@
 use Rattle.std.specs.Prelude.{ℕ, ◌+◌, List, [], ◌∷◌, ◌++◌, map, length, true, false, Option, Some, None}
 use Rattle.std.specs.List.{flat_map}
 use Rattle.ghes_serial.specs.declared.execute.Replay.{Replay}
-use Rattle.ghes_script.specs.declared.line.What.{What}
-use Rattle.ghes_script.specs.declared.line.What.TheVariants.{Raise, Nmi, Work}
+use Rattle.ghes_plain_script.specs.declared.line.What.{What}
+use Rattle.ghes_plain_script.specs.declared.line.What.TheVariants.{Raise, Nmi, Work}
 use Rattle.ghes_serial.specs.declared.ledger.Outcome.{Outcome}
 use Rattle.ghes_serial.specs.declared.ledger.Call.{Call}
 use Rattle.ghes_serial.specs.declared.ledger.Taken.{Taken}

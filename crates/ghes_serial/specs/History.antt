@@ -1,7 +1,7 @@
 -- A history: the executed lines of a script, each with the calls that it made and the blocks that it took.
 use Rattle.std.specs.Prelude.{◌≡◌, ℕ, List, [], ◌∷◌, ◌++◌, map, length, Option, Some, None}
-use Rattle.ghes_script.specs.declared.line.Line.{Line}
-use Rattle.ghes_script.specs.declared.line.What.{What}
+use Rattle.ghes_plain_script.specs.declared.line.Line.{Line}
+use Rattle.ghes_plain_script.specs.declared.line.What.{What}
 use Rattle.ghes_serial.specs.declared.ledger.Call.{Call}
 use Rattle.ghes_serial.specs.declared.ledger.Taken.{Taken}
 use Rattle.ghes_serial.specs.declared.ledger.Mark.{Mark}

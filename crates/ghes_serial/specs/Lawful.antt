@@ -2,9 +2,9 @@
 -- of nothing that lies between a block and its fate.
 use Rattle.std.specs.Prelude.{◌≡◌, ◌≤◌, ◌<◌, ℕ, ◌+◌, ◌==◌, if◌then◌else◌, not, Bool, true, false, List, [], ◌∷◌, ◌++◌, map, length, take, Option, Some, None, IsNone}
 use Rattle.std.specs.List.{flat_map, filter, range_with_len, AllByRecursion}
-use Rattle.ghes_script.specs.declared.line.Line.{Line}
-use Rattle.ghes_script.specs.declared.line.What.{What}
-use Rattle.ghes_script.specs.declared.line.What.TheVariants.{Raise, Nmi, Work}
+use Rattle.ghes_plain_script.specs.declared.line.Line.{Line}
+use Rattle.ghes_plain_script.specs.declared.line.What.{What}
+use Rattle.ghes_plain_script.specs.declared.line.What.TheVariants.{Raise, Nmi, Work}
 use Rattle.ghes_serial.specs.declared.ledger.Outcome.{Outcome}
 use Rattle.ghes_serial.specs.declared.ledger.Outcome.TheVariants.{Nothing, Queued, Malformed, Fatal, NoSlot}
 use Rattle.ghes_serial.specs.declared.ledger.Call.{Call}

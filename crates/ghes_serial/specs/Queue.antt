@@ -1,8 +1,8 @@
 -- The blocks of a source, and how many of them the receiver acknowledged.
 use Rattle.std.specs.Prelude.{ℕ, ◌==◌, if◌then◌else◌, List, [], ◌∷◌, length, slice_get, Option, Some, None}
 use Rattle.std.specs.List.{flat_map}
-use Rattle.ghes_script.specs.declared.line.What.{What}
-use Rattle.ghes_script.specs.declared.line.What.TheVariants.{Raise, Nmi, Work}
+use Rattle.ghes_plain_script.specs.declared.line.What.{What}
+use Rattle.ghes_plain_script.specs.declared.line.What.TheVariants.{Raise, Nmi, Work}
 use Rattle.ghes_serial.specs.declared.ledger.Outcome.{Outcome}
 use Rattle.ghes_serial.specs.declared.ledger.Outcome.TheVariants.{Nothing, Queued, Malformed, Fatal, NoSlot}
 use Rattle.ghes_serial.specs.declared.ledger.Call.{Call}

@@ -1,6 +1,6 @@
 //! Laws over the definitions, each the contract of a function that does nothing.
 ghost use Rattle.std.specs.Prelude.{◌≡◌, ◌≤◌, ◌<◌, ◌+◌, ℕ, List, [], ◌∷◌, length, slice_get, Some};
-ghost use Rattle.ghes_script.specs.declared.line.Line.{Line};
+ghost use Rattle.ghes_plain_script.specs.declared.line.Line.{Line};
 ghost use Rattle.ghes_serial.specs.Fates.{entries_of};
 ghost use Rattle.ghes_serial.specs.History.{Step, acts_in};
 ghost use Rattle.ghes_serial.specs.Image.{image_of};
