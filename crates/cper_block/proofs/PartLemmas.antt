@@ -118,13 +118,19 @@ joined_by false bytes limit entries is long sound cuts =
       no_gap = λ e. absurd (eqb-false h.raw_length 0 is e);
     }
 
+-- a well-formed block has no reason in its front
+pub front_none : (bytes : List ℕ) (limit : ℕ) → Judges bytes limit None → header_reason (header_of bytes) (min (length bytes) limit) ≡ None
+front_none bytes limit j =
+    let both = judged_none (front_reason bytes limit) (data_of bytes) j in
+    (cond_none (ltb (length bytes) 20) TooShort (header_reason (header_of bytes) (min (length bytes) limit)) both.0).1
+
 -- what no reason says of the front
 pub record IsFront (bytes : List ℕ) (limit : ℕ) : Type 0 where
   pub long : 20 ≤ length bytes
   pub sound : IsSound (header_of bytes) (min (length bytes) limit)
   pub walks : Walks (data_of bytes) None
 
-front_is : (bytes : List ℕ) (limit : ℕ) → Judges bytes limit None → IsFront bytes limit
+pub front_is : (bytes : List ℕ) (limit : ℕ) → Judges bytes limit None → IsFront bytes limit
 front_is bytes limit j =
     let both = judged_none (front_reason bytes limit) (data_of bytes) j in
     let front = cond_none (ltb (length bytes) 20) TooShort (header_reason (header_of bytes) (min (length bytes) limit)) both.0 in

@@ -97,7 +97,8 @@ second_row true b b' x y rest less none = none
 second_row false true b' x y rest less none = let never : Some y ≡ None = none in cc
 second_row false false b' x y rest less none = ap (λ c. cond c (Some y) rest) (less refl) ∙ none
 
-header_wider : (header : Header) (limit wider : ℕ) → limit ≤ wider → header_reason header limit ≡ None → header_reason header wider ≡ None
+-- a header that a limit lets in is let in by a greater one
+pub header_wider : (header : Header) (limit wider : ℕ) → limit ≤ wider → header_reason header limit ≡ None → header_reason header wider ≡ None
 header_wider header limit wider more none =
     second_row (ltb (block_length header) 20) (ltb limit (block_length header)) (ltb wider (block_length header)) TooShort TooLong _
     (λ within. le-ltb wider (block_length header) (omega (arith, more, ltb-false limit (block_length header) within))) none
@@ -119,3 +120,8 @@ reason_wider bytes limit wider more none =
     ap (λ front. option_or front (data_reason (data_of bytes)))
     (front_wider (ltb (length bytes) 20) (header_of bytes) (min (length bytes) limit) (min (length bytes) wider) smaller parts.0)
     ∙ parts.1
+
+-- the same of a judgement
+pub judged_wider : (bytes : List ℕ) (limit wider : ℕ) → limit ≤ wider → Judges bytes limit None → Judges bytes wider None
+judged_wider bytes limit wider more judged =
+    reason_is_judgement bytes wider None (sym (reason_wider bytes limit wider more (sym (judgement_is_reason bytes limit None judged))))

@@ -6,6 +6,10 @@ use Rattle.cper_block.specs.declared.header.Header.{Header}
 use Rattle.cper_block.specs.declared.malformed.Malformed.{Malformed}
 use Rattle.cper_block.specs.declared.malformed.Malformed.TheVariants.{TooShort, TooLong, DataLength, RawOffset}
 
+-- how many bytes a header has (ACPI 6.5, 18.3.2.7.1)
+abbrev pub header_size : ℕ
+header_size = 20
+
 -- the header that 20 bytes spell (ACPI 6.5, 18.3.2.7.1)
 abbrev pub header_of : List ℕ → Header
 header_of bytes = record {

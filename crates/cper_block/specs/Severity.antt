@@ -1,5 +1,5 @@
 -- The severity of an error (ACPI 6.5, 18.3.2.7.1).
-use Rattle.std.specs.Prelude.{ℕ, ◌==◌, if◌then◌else◌, List, codes}
+use Rattle.std.specs.Prelude.{ℕ, ◌==◌, if◌then◌else◌, Bool, true, false, List, codes}
 use Rattle.cper_block.specs.declared.severity.Severity.{Severity}
 use Rattle.cper_block.specs.declared.severity.Severity.TheVariants.{Recoverable, Fatal, Corrected, Informational}
 
@@ -10,6 +10,13 @@ severity_of code =
     else if code == 2 then Corrected
     else if code == 3 then Informational
     else Fatal
+
+-- whether a severity is the fatal one (ACPI 6.5, 18.3.2.7.1)
+abbrev pub is_fatal_severity : Severity → Bool
+is_fatal_severity Fatal = true
+is_fatal_severity Recoverable = false
+is_fatal_severity Corrected = false
+is_fatal_severity Informational = false
 
 -- the word for a severity (own choice)
 abbrev pub severity_text : Severity → List ℕ

@@ -1,9 +1,9 @@
 ghost use Rattle.std.specs.Prelude.{◌≡◌, ◌<◌, ◌≤◌, ◌^◌, length, IfOk, OnOk};
 ghost use Rattle.std.specs.Result.{result_err};
 ghost use Rattle.cper_block.specs.Cut.{Walks};
-ghost use Rattle.cper_block.specs.Header.{header_of};
 
 use crate::entry::entry_length;
+use crate::header::HEADER_SIZE;
 use crate::{Entries, Header, Malformed};
 use std::marker::Model;
 
@@ -50,16 +50,6 @@ fn walk(bytes: &[u8]) -> Result<(), Malformed>
     }
 }
 
-// The header at the front of the bytes.
-fn header_at(bytes: &[u8]) -> Header
-    requires { 20 ≤ length bytes.now }
-    ensures { result ≡ header_of bytes.now }
-{
-    let mut front = [0u8; 20];
-    front.copy_from_slice(bytes.split_at(20).0);
-    Header::read(&front)
-}
-
 impl<'a> Block<'a> {
     ghost use Rattle.cper_block.specs.Header.{header_of};
     ghost use Rattle.cper_block.specs.Block.{Judges, data_of, raw_of};
@@ -74,13 +64,13 @@ impl<'a> Block<'a> {
         ensures entries { IfOk result (λ block. block.entries ≡ data_of bytes.now) }
         ensures raw { IfOk result (λ block. block.raw ≡ raw_of bytes.now) }
     {
-        if bytes.len() < 20 {
+        if bytes.len() < HEADER_SIZE {
             return Err(Malformed::TooShort);
         }
-        let header = header_at(bytes);
+        let header = Header::at(bytes);
         let at_hand = bytes.len().min(limit as usize) as u32;
         let length = header.check(at_hand)? as usize;
-        let (_header, body) = bytes.split_at(20);
+        let (_header, body) = bytes.split_at(HEADER_SIZE);
         let (entries, _behind) = body.split_at(header.length as usize);
         walk(entries)?;
         let raw_offset = if header.raw_length == 0 {

@@ -19,9 +19,23 @@ pub struct Header {
     pub severity: u32,
 }
 
+/// How many bytes the header of a block has.
+pub(crate) const HEADER_SIZE: usize = 20;
+
 impl Header {
+    ghost use Rattle.std.specs.Prelude.{length};
     ghost use Rattle.cper_block.specs.Header.{header_of, block_length, header_reason};
     ghost use Rattle.cper_block.specs.Severity.{severity_of};
+
+    /// The header at the front of the bytes.
+    pub(crate) fn at(bytes: &[u8]) -> Header
+        requires { 20 ≤ length bytes.now }
+        ensures { result ≡ header_of bytes.now }
+    {
+        let mut front = [0u8; HEADER_SIZE];
+        front.copy_from_slice(bytes.split_at(HEADER_SIZE).0);
+        Header::read(&front)
+    }
 
     /// Reads the header.
     pub fn read(bytes: &[u8; 20]) -> Header

@@ -5,6 +5,7 @@ ghost use Rattle.cper_block.specs.Header.{header_of, block_length};
 ghost use Rattle.cper_block.specs.Entry.{fields_of};
 ghost use Rattle.cper_block.specs.Cut.{Cuts, begins_entry, entries_of};
 ghost use Rattle.cper_block.specs.Block.{data_of, Judges, IsJoined};
+ghost use Rattle.cper_block.specs.Image.{image_of};
 ghost use Rattle.cper_block.specs.Reason.{reason_of};
 
 /// A well-formed block is its header, its entries, a gap and its raw data, one behind the other, and these are all
@@ -31,4 +32,18 @@ pub fn bytes_are_judged_in_one_way()
 /// The computed reason of a block is its judgement.
 pub fn a_reason_is_the_judgement()
     ensures { (bytes : List ℕ) (limit : ℕ) (answer : Option Malformed) → Judges bytes limit answer ↔ (answer ≡ reason_of bytes limit) }
+{}
+
+/// A block that a limit lets in is let in by a higher one.
+pub fn a_higher_limit_lets_a_block_in()
+    ensures { (bytes : List ℕ) (low high : ℕ) → low ≤ high → Judges bytes low None → Judges bytes high None }
+{}
+
+/// The image of a well-formed block is the block, without what lies behind it. So a block that nothing lies behind is its
+/// own image.
+pub fn a_well_formed_block_is_its_own_image()
+    ensures front { (block : List ℕ) (limit : ℕ) → Judges block limit None
+        → image_of limit block ≡ take (block_length (header_of block)) block }
+    ensures whole { (block : List ℕ) (limit : ℕ) → Judges block limit None → length block ≡ block_length (header_of block)
+        → image_of limit block ≡ block }
 {}

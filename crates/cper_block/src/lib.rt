@@ -5,6 +5,7 @@ mod block;
 mod entries;
 mod entry;
 mod header;
+mod image;
 mod laws;
 mod malformed;
 mod severity;
@@ -15,8 +16,10 @@ pub use block::Block;
 pub use entries::Entries;
 pub use entry::DataEntry;
 pub use header::Header;
+pub use image::Image;
 pub use laws::{
-    a_block_is_its_parts, a_reason_is_the_judgement, bytes_are_judged_in_one_way,
+    a_block_is_its_parts, a_higher_limit_lets_a_block_in, a_reason_is_the_judgement,
+    a_well_formed_block_is_its_own_image, bytes_are_judged_in_one_way,
     the_entries_are_those_of_the_cut,
 };
 pub use malformed::Malformed;

@@ -13,6 +13,18 @@ pub enum Severity {
     Informational,
 }
 
+impl Severity {
+    ghost use Rattle.std.specs.Prelude.{◌≡◌};
+    ghost use Rattle.cper_block.specs.Severity.{is_fatal_severity};
+
+    /// Whether it is the fatal one.
+    pub fn is_fatal(self) -> bool
+        ensures { result ≡ is_fatal_severity self }
+    {
+        self == Severity::Fatal
+    }
+}
+
 impl From<u32> for Severity {
     ghost use Rattle.std.specs.Prelude.{◌≡◌};
 

@@ -1,5 +1,6 @@
 // Status blocks by their bytes. The memory block stands in docs/FORMATS.md.
 mod fields;
+mod images;
 mod refusals;
 
 use std::alloc::Global;
