@@ -1,13 +1,8 @@
-pub mod Attempts
 pub mod Bus
 pub mod BusLaws
 pub mod Cut
-pub mod Faulty
-pub mod FaultyLaws
 pub mod Firmware
-pub mod MemBus
 pub mod Number
-pub mod OneSource
 pub mod Refusal
 pub mod Region
 pub mod Table

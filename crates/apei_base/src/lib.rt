@@ -4,14 +4,11 @@
 //! with the first reason in a fixed order; an access that fails changes nothing and is counted.
 #![tactic(auto)]
 
-mod attempts;
 mod bus;
 mod bytes;
-mod faulty;
 mod fields;
 mod firmware;
 mod gas;
-mod mem_bus;
 mod region;
 mod sdt;
 #[cfg(test)]
@@ -19,10 +16,8 @@ mod tests;
 
 pub use bus::{Bus, BusFault};
 pub use bytes::Bytes;
-pub use faulty::Faulty;
 pub use fields::{gas_at, u16_at, u32_at, u64_at};
 pub use firmware::{Firmware, clear, copy_area, read_ack, read_status, write_ack};
 pub use gas::{Gas, GasError};
-pub use mem_bus::MemBus;
 pub use region::{Region, Space};
 pub use sdt::{Sdt, SdtError};

@@ -1,7 +1,3 @@
-mod faulty;
-mod mem_bus;
-mod one_source;
-
 use crate::{Bytes, Gas, GasError, Region, Sdt, SdtError, Space};
 use hex::FromHex;
 use std::test::Fail;

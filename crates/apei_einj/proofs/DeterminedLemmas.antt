@@ -2,7 +2,7 @@
 use Rattle.std.proofs.Common.{◌≡◌, ◌≢◌, ◌<◌, ◌⊎◌, ℕ, zero, suc, arith, Bool, true, false, List, [], ◌∷◌, Option, Some, None, Result, Ok, Err, refl, sym, ap, subst, ◌∙◌, inl, inr}
 use Rattle.std.proofs.lemmas.Bool.{cases_order}
 use Rattle.apei_base.specs.Bus.{Access, bytes_at}
-use Rattle.apei_base.specs.MemBus.{IsMemStep}
+use Rattle.apei_mem_bus.specs.MemBus.{IsMemStep}
 use Rattle.apei_base.specs.declared.region.Space.TheVariants.{Memory}
 use Rattle.apei_einj.specs.Action.{Instruction, ReadRegister, ReadRegisterValue, WriteRegister, WriteRegisterValue, NoOperation, instruction_of, Puts, Does, Runs, preserves}
 use Rattle.apei_einj.specs.Anchor.{anchor_of}

@@ -1,7 +1,7 @@
 //! Laws over the definitions, each the contract of a function that does nothing.
 ghost use Rattle.std.specs.Prelude.{◌≡◌, ◌≢◌, ℕ, false, List, Some, None, Result, Err};
 ghost use Rattle.std.specs.List.{AllByRecursion};
-ghost use Rattle.apei_base.specs.MemBus.{IsMemStep};
+ghost use Rattle.apei_mem_bus.specs.MemBus.{IsMemStep};
 ghost use Rattle.apei_einj.specs.Action.{Runs};
 ghost use Rattle.apei_einj.specs.Anchor.{anchor_of};
 ghost use Rattle.apei_einj.specs.Determined.{IsDetermined};

@@ -5,7 +5,8 @@ use super::machine::{
     TYPES, machine, request,
 };
 use crate::{Einj, InjectError, Injected, is_error_type};
-use apei_base::{Bus, Faulty, Region, Space};
+use apei_base::{Bus, Region, Space};
+use apei_mem_bus::Faulty;
 use std::alloc::Global;
 use std::test::Fail;
 

@@ -1,9 +1,10 @@
 // The machine that the sample "injection" is of: its registers, its address structure and a trigger table, in memory.
 ghost use Rattle.std.specs.Prelude.{None};
-ghost use Rattle.apei_base.specs.MemBus.{failed_of};
+ghost use Rattle.apei_mem_bus.specs.MemBus.{failed_of};
 
 use crate::{InjectError, Injected, Place, Request, is_error_type};
-use apei_base::{Bus, BusFault, MemBus, Region, Space};
+use apei_base::{Bus, BusFault, Region, Space};
+use apei_mem_bus::MemBus;
 use std::alloc::Global;
 use std::test::Fail;
 

@@ -2,7 +2,8 @@
 use super::{ENTRIES, HEADERS, put};
 use crate::instruction::run_entry;
 use crate::{Einj, Entry, RunError};
-use apei_base::{Bus, Faulty, Gas, MemBus, Region, Space};
+use apei_base::{Bus, Gas, Region, Space};
+use apei_mem_bus::{Faulty, MemBus};
 use std::alloc::Global;
 use std::test::Fail;
 

@@ -4,7 +4,8 @@ use super::machine::{
     Asked, DONE, ERROR_TYPE, EXECUTED, End, FIRST, IN_MEMORY, NOWHERE, machine, request,
 };
 use crate::{Einj, InjectError, Place};
-use apei_base::{Bus, Faulty, MemBus, Region, Space};
+use apei_base::{Bus, Region, Space};
+use apei_mem_bus::{Faulty, MemBus};
 use std::alloc::Global;
 use std::test::Fail;
 

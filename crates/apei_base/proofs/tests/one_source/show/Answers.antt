@@ -1,9 +1,0 @@
-use Rattle.std.proofs.Common.{arith}
-use Rattle.apei_base.proofs.ShownLemmas.{shown_from_each}
-use Rattle.apei_base.proofs.tests.one_source.show.Goals as goal
-
-pub returns : goal.returns
-returns c =
-    let all = shown_from_each c.args.skip c.args.block.now c.loop-step.into
-    (λ k below. c.loop-step.invariant k (omega arith)) in
-    rw (c.loop-step.auto.into) at all

@@ -1,5 +1,0 @@
-use Rattle.std.proofs.Common.{◌≡◌, ◌<◌, ◌+◌, ℕ, slice_index}
-use Rattle.apei_base.proofs.tests.one_source.show.Given as goal
-
-abbrev pub invariant-loop-step : goal.invariant-loop-step
-invariant-loop-step l = (k : ℕ) → k < l.step → slice_index l.into k ≡ slice_index l.block (l.skip + k)

@@ -1,0 +1,6 @@
+pub mod Attempts
+pub mod BusLaws
+pub mod Faulty
+pub mod FaultyLaws
+pub mod MemBus
+pub mod OneSource

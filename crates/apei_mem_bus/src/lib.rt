@@ -1,0 +1,15 @@
+//! Simulated machines: a bus whose cells are in memory, a bus over another that fails by plan, and the smallest memory
+//! of one error source. An access that fails changes nothing and is counted.
+#![tactic(auto)]
+
+mod attempts;
+mod faulty;
+mod mem_bus;
+mod one_source;
+#[cfg(test)]
+mod tests;
+
+pub use attempts::Attempts;
+pub use faulty::Faulty;
+pub use mem_bus::MemBus;
+pub use one_source::OneSource;

@@ -1,0 +1,155 @@
+//! The smallest memory of one source that is a `Firmware`. It fails at no access.
+ghost use Rattle.std.specs.Prelude.{◌≡◌, ◌<◌, ◌&&◌, ◌==◌, ◌%◌, ◌^◌, ◌+◌, ℕ, Some, None, is_some, unwrap_or, option_copied, vec_len, OnSome, length, slice_index, take, drop, IsTrue, IfOk};
+ghost use Rattle.std.specs.Bool.{OnTrue};
+ghost use Rattle.std.proofs.Props.{props};
+ghost use Rattle.apei_base.specs.Bus.{reach_of};
+ghost use Rattle.apei_base.specs.Firmware.{Seen, standing, same_reach, block_status, status_value, shown};
+ghost use Rattle.apei_mem_bus.specs.OneSource.{seen_by_parts, raised_prop, IsWhole, IsPlainStep};
+ghost use Rattle.apei_base.specs.Width.{is_width};
+
+use apei_base::{Bus, BusFault, Bytes, Firmware, Region, Space};
+
+// Its registers, where its area begins and how long it is, and what firmware and receiver did there.
+#[derive(Drop)]
+pub struct OneSource {
+    pub status: Region,
+    pub ack: Region,
+    pub area: u64,
+    pub room: u32,
+    pub cell: u64,
+    pub made: Vec<Bytes>,
+    pub acknowledged: usize,
+    pub waits: bool,
+    pub ghost is: { IsWhole (seen_by_parts (reach_of status) (reach_of ack) area room cell made.items acknowledged waits) ack.width } by { Prim.hlevel (props, raised_prop) },
+}
+
+// Both reach the same cells.
+fn is_same(one: &Region, other: &Region) -> bool
+    ensures { result ≡ same_reach (reach_of one.now) (reach_of other.now) }
+{
+    let same_space = match one.space {
+        Space::Memory => other.space == Space::Memory,
+        Space::Port => other.space == Space::Port,
+    };
+    same_space && one.address == other.address && one.width == other.width
+}
+
+// As many low bits of a value as a register is wide.
+fn low_bits(value: u64, width: u8) -> u64
+    requires { IsTrue (is_width width) }
+    ensures { result ≡ value % 2 ^ width }
+{
+    match width {
+        8 => value % 0x100,
+        16 => value % 0x1_0000,
+        32 => value % 0x1_0000_0000,
+        _ => value,
+    }
+}
+
+// The bytes of a block from a place on, and zeros behind it.
+fn show(block: &[u8], skip: u128, into: &mut [u8])
+    requires { skip < 2 ^ 65 }
+    ensures { into.new ≡ shown skip (length into.old) block.now }
+{
+    for step in 0..into.len() {
+        into[step] = match usize::try_from(skip + step as u128) {
+            Ok(place) => block.get(place).copied().unwrap_or(0),
+            Err(_) => 0,
+        };
+    }
+}
+
+impl OneSource {
+    // The bytes of the standing block, none where none stands.
+    fn standing(&self) -> Option<&[u8]>
+        ensures below { OnSome result (self.now.acknowledged < vec_len self.now.made) }
+        ensures value { option_copied result ≡ standing (⟦<OneSource as Bus>⟧.state self.now) }
+    {
+        if self.waits {
+            None
+        } else {
+            self.made.get(self.acknowledged).map(Bytes::as_slice)
+        }
+    }
+
+    // A write that clears the standing block.
+    fn clears(&self, at: &Region, value: u64) -> bool
+        ensures below { OnTrue result (self.now.acknowledged < vec_len self.now.made) }
+        ensures value { result ≡ (same_reach (reach_of at.now) (block_status (⟦<OneSource as Bus>⟧.state self.now).layout) && (value == 0) && is_some (standing (⟦<OneSource as Bus>⟧.state self.now))) }
+    {
+        is_same(at, &Region::memory(self.area, 32)) && value == 0 && self.standing().is_some()
+    }
+
+    // Where the area is, once a block has stood.
+    fn status_value(&self) -> u64
+        ensures value { result ≡ status_value (⟦<OneSource as Bus>⟧.state self.now) }
+        ensures fits { result < 2 ^ self.now.status.width }
+    {
+        if self.acknowledged > 0 || self.standing().is_some() {
+            self.area
+        } else {
+            0
+        }
+    }
+}
+
+impl Bus for OneSource {
+    ghost use Rattle.apei_base.specs.BusLaws.{untold_answers};
+
+    ghost State = { Seen };
+
+    ghost state = { λ s. seen_by_parts (reach_of s.status) (reach_of s.ack) s.area s.room s.cell s.made.items s.acknowledged s.waits };
+
+    ghost step = { IsPlainStep };
+
+    ghost cells = { λ _. None };
+
+    ghost faults = { λ _. 0 };
+
+    ghost answers = { λ before after access step. untold_answers access };
+
+    #[tactic(auto, unfolding(apei_base::specs::Firmware::after_access, apei_base::specs::Firmware::IsAnswered))]
+    fn read(&mut self, at: &Region) -> Result<u64, BusFault> {
+        if is_same(&self.status, at) {
+            Ok(self.status_value())
+        } else if is_same(&self.ack, at) {
+            Ok(self.cell)
+        } else {
+            Ok(0)
+        }
+    }
+
+    #[tactic(auto, unfolding(apei_base::specs::Firmware::after_access, apei_base::specs::Firmware::IsAnswered))]
+    fn write(&mut self, at: &Region, value: u64) -> Result<(), BusFault> {
+        let value = low_bits(value, at.width);
+        if self.clears(at, value) {
+            self.acknowledged += 1;
+            self.waits = true;
+        } else if is_same(&self.ack, at) {
+            self.cell = value;
+            self.waits = false;
+        }
+        Ok(())
+    }
+
+    #[tactic(auto, unfolding(apei_base::specs::Firmware::after_access, apei_base::specs::Firmware::IsAnswered))]
+    fn copy(&mut self, address: u64, skip: usize, into: &mut [u8]) -> Result<(), BusFault> {
+        let first = u128::from(address) + skip as u128;
+        let block = self.standing().unwrap_or(&[]);
+        if let Some(place) = first.checked_sub(u128::from(self.area)) {
+            show(block, place, into);
+        }
+        Ok(())
+    }
+}
+
+impl Firmware for OneSource {
+    ghost seen = { Self.state };
+
+    ghost same = { λ one other equal. equal };
+
+    ghost moves = { λ before after access step. step };
+
+    ghost sound = { λ port. port.is.sound };
+}

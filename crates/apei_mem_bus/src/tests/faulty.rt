@@ -1,0 +1,86 @@
+use crate::{Faulty, MemBus, OneSource};
+use apei_base::{Bus, BusFault, Bytes, Firmware, Region, Space};
+use std::alloc::{AllocError, Global};
+use std::test::Fail;
+
+// A write, a copy and a read.
+fn accesses<B: Bus>(bus: &mut B, place: &Region) -> [Result<(), BusFault>; 3] {
+    let mut bytes = [0];
+    [
+        bus.write(place, 0x5a),
+        bus.copy(place.address, 0, &mut bytes),
+        bus.read(place).map(|_| ()),
+    ]
+}
+
+#[test]
+fn each_access_fails_where_its_number_is_planned(rt: HostRuntime) -> Result<(), Fail> {
+    let place = Region::memory(0x1000, 8);
+    // The planned number, what each access answers, and what then stands in the inner bus.
+    let cases = [
+        (0, [Ok(()), Ok(()), Ok(())], 0x5a),
+        (1, [Err(BusFault), Ok(()), Ok(())], 0),
+        (2, [Ok(()), Err(BusFault), Ok(())], 0x5a),
+        (3, [Ok(()), Ok(()), Err(BusFault)], 0x5a),
+    ];
+    for (number, answers, byte) in cases {
+        let inner = MemBus::new(rt.alloc(), &[(Space::Memory, 0x1000, 1)], &[])?;
+        let mut bus = Faulty::new(rt.alloc(), inner, &[number])?;
+        assert_eq!(rt; accesses(&mut bus, &place), answers, "at {number}");
+        assert_eq!(rt; bus.accesses(), 3);
+        assert_eq!(rt; bus.into_inner().read(&place), Ok(byte), "at {number}");
+    }
+    Ok(())
+}
+
+#[test]
+fn an_access_fails_where_the_inner_one_does(rt: HostRuntime) -> Result<(), Fail> {
+    let inner = MemBus::new(rt.alloc(), &[], &[2])?;
+    let mut bus = Faulty::new(rt.alloc(), inner, &[1])?;
+    // The first is not passed on, so the third is the inner bus's second.
+    let answers = [Err(BusFault), Ok(()), Err(BusFault)];
+    assert_eq!(rt; accesses(&mut bus, &Region::memory(0x1000, 8)), answers);
+    Ok(())
+}
+
+// Two blocks of 20 bytes, of which none is acknowledged.
+fn two_blocks(alloc: Global) -> Result<OneSource, AllocError> {
+    let first = Bytes::copy(alloc, &[1; 20])?;
+    let second = Bytes::copy(alloc, &[2; 20])?;
+    Ok(OneSource {
+        status: Region::memory(0x1000, 64),
+        ack: Region::memory(0x1008, 64),
+        area: 0x2000,
+        room: 64,
+        cell: 0,
+        made: vec![in alloc; first, second]?,
+        acknowledged: 0,
+        waits: false,
+    })
+}
+
+// Where the area is, the first bytes there, and then the clear and the acknowledgement.
+fn receive<P: Firmware>(port: &mut P) -> Result<(u64, [u8; 3]), BusFault> {
+    let mut bytes = [0xee; 3];
+    let area = port.read(&Region::memory(0x1000, 64))?;
+    port.copy(area, 18, &mut bytes)?;
+    port.write(&Region::memory(area, 32), 0)?;
+    port.write(&Region::memory(0x1008, 64), 1)?;
+    Ok((area, bytes))
+}
+
+#[test]
+fn a_firmware_under_faults_gives_each_block_in_turn(rt: HostRuntime) -> Result<(), Fail> {
+    let mut port = Faulty::new(rt.alloc(), two_blocks(rt.alloc())?, &[2])?;
+    let answers = [
+        // The copy fails, and nothing is lost.
+        Err(BusFault),
+        Ok((0x2000, [1, 1, 0])),
+        Ok((0x2000, [2, 2, 0])),
+        Ok((0x2000, [0, 0, 0])),
+    ];
+    for answer in answers {
+        assert_eq!(rt; receive(&mut port), answer);
+    }
+    Ok(())
+}
