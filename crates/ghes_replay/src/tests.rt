@@ -1,42 +1,79 @@
-// Runs over files and an output in memory. The sample tables and blocks stand in docs/FORMATS.md.
-mod blocks;
-mod checks;
-mod decodes;
-mod outputs;
-mod refusals;
-mod replays;
-mod tables;
-
-use crate::{RunEnd, ghes_run};
+//! Runs over files and an output in memory. Many more runs, of the built program, stand in checks/runs.py.
+use crate::{Outcome, Reported, RunEnd, Taken, check_run, decode_run, ghes_run};
 use ghes_outside::{MemFiles, MemSink};
-use std::alloc::{AllocError, Global};
+use std::alloc::Global;
 use std::test::Fail;
 
-// The table "one source": its header with its count, and its structure of type 9.
-const HEADER: &str = "484553546800000001404748455352545245504c41593031010000004748455301000000\
-    01000000";
+// Files by name, as hexadecimal digits: the tables "one source" and "injection" of docs/FORMATS.md, the first with another
+// checksum, and with its source disabled, a block with three raw bytes, and a file of one byte.
+const BYTES: [(&str, &str); 6] = [
+    (
+        "hest",
+        "484553546800000001404748455352545245504c4159303101000000474845530100000001000000\
+        09000100ffff0001010000000100000000000000004000040000007f00000000\
+        041c000000000000000000000000000000000000000000000000000000100000",
+    ),
+    (
+        "sum",
+        "484553546800000001414748455352545245504c4159303101000000474845530100000001000000\
+        09000100ffff0001010000000100000000000000004000040000007f00000000\
+        041c000000000000000000000000000000000000000000000000000000100000",
+    ),
+    (
+        "off",
+        "484553546800000001414748455352545245504c4159303101000000474845530100000001000000\
+        09000100ffff0000010000000100000000000000004000040000007f00000000\
+        041c000000000000000000000000000000000000000000000000000000100000",
+    ),
+    (
+        "einj",
+        "45494e4a5001000001714748455352545245504c4159303101000000474845530100000030000000\
+        0000000009000000\
+        0004000000000000000000000000000000000000000000000000000000000000\
+        01000000004000040000007e000000000000000000000000ffffffffffffffff\
+        02020000002000030800007e000000000000000000000000ffffffff00000000\
+        03000000002000030c00007e000000000000000000000000ffffffff00000000\
+        0404000000000000000000000000000000000000000000000000000000000000\
+        0503000001080001b2000000000000009a00000000000000ff00000000000000\
+        06010000002000031000007e0000000001000000000000000100000000000000\
+        07000000000801031000007e000000000000000000000000ff00000000000000\
+        08020000002000034000007e000000000000000000000000ffffffff00000000",
+    ),
+    (
+        "block",
+        "0200000018000000030000000000000001000000ffffffff010203",
+    ),
+    ("-", "ff"),
+];
 
-const SOURCE: &str = "09000100ffff0001010000000100000000000000004000040000007f00000000\
-    041c0000000000000000000000000000000000000000000000000000\
-    00100000";
+// Scripts by name.
+const SCRIPTS: [(&str, &str); 3] = [
+    (
+        "fates",
+        "raise 1 0200000000000000000000000000000002000000\nraise 1 0200000000000000000000000100000002000000\n\
+        nmi 1\nnmi 1\nwork\nnmi 1\n",
+    ),
+    (
+        "fatal",
+        "raise 1 0200000000000000000000000000000003000000\nraise 1 0100000000000000000000000000000001000000\n\
+        nmi 1\nnmi 1\nnmi 1\n",
+    ),
+    ("bad", "work\nnmi 1\nworks\nnmi 7\n"),
+];
 
-// The structure of the table "one source, version 2".
-const SOURCE_2: &str = "0a000200ffff0001010000000100000000000000004000040800007f00000000\
-    041c0000000000000000000000000000000000000000000000000000\
-    00100000002000030010007f00000000feffffff000000000100000000000000";
+const FATES: &str =
+    "nmi 1: queued 1\nnmi 1: malformed 2: 3 data length\nreport source 1 block 1\n  severity corrected\n\
+    dropped source 1 block 2: 3 data length\n  data 0200000000000000000000000100000002000000\nnmi 1: nothing\nsummary\n\
+    source 1: raised 2, acknowledged 2, delivered 1, duplicate 0, dropped 1, panic 0\n\
+    reports 1, repeats 0, no slot 0, fault 0\n";
 
-// The table "injection": its header with the injection header, and its entries of the actions 0 to 8.
-const EINJ: &str = "45494e4a5001000001714748455352545245504c41593031010000004748455301000000\
-    300000000000000009000000\
-    0004000000000000000000000000000000000000000000000000000000000000\
-    01000000004000040000007e000000000000000000000000ffffffffffffffff\
-    02020000002000030800007e000000000000000000000000ffffffff00000000\
-    03000000002000030c00007e000000000000000000000000ffffffff00000000\
-    0404000000000000000000000000000000000000000000000000000000000000\
-    0503000001080001b2000000000000009a00000000000000ff00000000000000\
-    06010000002000031000007e0000000001000000000000000100000000000000\
-    07000000000801031000007e000000000000000000000000ff00000000000000\
-    08020000002000034000007e000000000000000000000000ffffffff00000000";
+const FATAL: &str =
+    "nmi 1: queued 1\nnmi 1: fatal 2\npanic\npending source 1 block 1\n  severity none\n\
+    fatal source 1 block 2\n  severity fatal\nend of panic\nsummary\n\
+    source 1: raised 2, acknowledged 2, delivered 0, duplicate 0, dropped 0, panic 2\n\
+    reports 0, repeats 0, no slot 0, fault 0\n";
+
+const LISTED: &str = "hest: 1 sources\n1 at 40: ghes enabled, notification 4, block length 4096\n";
 
 const USAGE: &str =
     "ghes: usage: replay HEST EINJ SCRIPT | check HEST EINJ | decode BLOCK | load N\n";
@@ -48,128 +85,205 @@ struct Ran {
     out: MemSink,
 }
 
-// Sets bytes at their offsets.
-fn set(bytes: &mut [u8], changes: &[(usize, u8)]) {
-    for (at, byte) in changes {
-        if *at < bytes.len() {
-            bytes[*at] = *byte;
-        }
+// The files and the scripts. The numbered loads fail.
+fn all_files(alloc: Global, failing: &[u64]) -> Result<MemFiles, Fail> {
+    let mut files = MemFiles::new(alloc, failing)?;
+    for (name, digits) in &BYTES {
+        files.add(name, &hex::decode(alloc, digits)?)?;
     }
-}
-
-// These digits, but for the bytes at these offsets.
-fn changed(alloc: Global, digits: &str, changes: &[(usize, u8)]) -> Result<Vec<u8>, Fail> {
-    let mut bytes = hex::decode(alloc, digits)?;
-    set(&mut bytes, changes);
-    Ok(bytes)
-}
-
-// So many zeros, but for the bytes at these offsets.
-fn blank(alloc: Global, length: usize, changes: &[(usize, u8)]) -> Result<Vec<u8>, Fail> {
-    let mut bytes = vec![in alloc; 0u8; length]?;
-    set(&mut bytes, changes);
-    Ok(bytes)
-}
-
-// Writes a number at an offset, the lowest byte first.
-fn put_number(bytes: &mut [u8], at: usize, number: u32) {
-    let mut next = at;
-    for byte in number.to_le_bytes() {
-        if next < bytes.len() {
-            bytes[next] = byte;
-            next += 1;
-        }
+    for (name, script) in &SCRIPTS {
+        files.add(name, script.as_bytes())?;
     }
+    Ok(files)
 }
 
-// Sets the length that a table states, and the checksum that makes its bytes add up to 0.
-fn mend(bytes: &mut [u8]) {
-    let length = u32::try_from(bytes.len()).unwrap_or(0);
-    put_number(bytes, 4, length);
-    set(bytes, &[(9, 0)]);
-    let mut total = 0u8;
-    for byte in &*bytes {
-        total = total.wrapping_add(*byte);
-    }
-    set(bytes, &[(9, 0u8.wrapping_sub(total))]);
-}
-
-// The table of these structures.
-fn table(alloc: Global, structures: &[Vec<u8>]) -> Result<Vec<u8>, Fail> {
-    let mut bytes = hex::decode(alloc, HEADER)?;
-    for structure in structures {
-        bytes.extend_from_slice(structure)?;
-    }
-    put_number(&mut bytes, 36, u32::try_from(structures.len()).unwrap_or(0));
-    mend(&mut bytes);
-    Ok(bytes)
-}
-
-// The table "one source", with the checksum that it states.
-fn one_source(alloc: Global) -> Result<Vec<u8>, Fail> {
-    let mut bytes = hex::decode(alloc, HEADER)?;
-    let structure = hex::decode(alloc, SOURCE)?;
-    bytes.extend_from_slice(&structure)?;
-    Ok(bytes)
-}
-
-// The table "a server", where the enabled byte of its first generic source is this one.
-fn server(alloc: Global, enabled: u8) -> Result<Vec<u8>, Fail> {
-    let structures = [
-        blank(alloc, 152, &[(32, 4)])?,
-        blank(alloc, 160, &[(0, 1), (2, 1), (44, 4)])?,
-        blank(alloc, 48, &[(0, 6), (2, 2)])?,
-        blank(alloc, 44, &[(0, 7), (2, 3)])?,
-        blank(alloc, 56, &[(0, 8), (2, 4)])?,
-        changed(alloc, SOURCE, &[(2, 8), (7, enabled)])?,
-        changed(alloc, SOURCE, &[(2, 9), (24, 8), (32, 3)])?,
-    ];
-    table(alloc, &structures)
-}
-
-fn words_of(alloc: Global, words: &[&str]) -> Result<Vec<String>, AllocError> {
+// Does what the words ask for, with these files and an output on which the numbered puts fail.
+fn ask(alloc: Global, words: &[&str], mut files: MemFiles, puts: &[u64]) -> Result<Ran, Fail> {
     let mut all = Vec::new(alloc);
     for word in words {
         all.push(String::from_str(alloc, word)?)?;
     }
-    Ok(all)
-}
-
-// Does what the words ask for, with these files. The numbered puts fail.
-fn ask(
-    alloc: Global,
-    words: &[&str],
-    contents: &[(&str, &[u8])],
-    failing: &[u64],
-) -> Result<Ran, Fail> {
-    let mut files = MemFiles::new(alloc, &[])?;
-    for (name, bytes) in contents {
-        files.add(name, bytes)?;
-    }
-    let mut out = MemSink::new(alloc, 2_000_000, failing)?;
-    let words = words_of(alloc, words)?;
-    let end = ghes_run(alloc, &words, &mut files, &mut out);
+    let mut out = MemSink::new(alloc, 2_000_000, puts)?;
+    let end = ghes_run(alloc, &all, &mut files, &mut out);
     Ok(Ran { end, out })
 }
 
-// Lists a table.
-fn list(alloc: Global, table: &[u8]) -> Result<Ran, Fail> {
-    ask(alloc, &["check", "hest", "-"], &[("hest", table)], &[])
+// The words, the loads and the puts that fail, the status and the output.
+type Case = (
+    &'static [&'static str],
+    &'static [u64],
+    &'static [u64],
+    u8,
+    &'static [&'static str],
+);
+
+const CASES: [Case; 18] = [
+    (&["replay", "hest", "-", "fates"], &[], &[], 0, &[FATES]),
+    (&["replay", "hest", "-", "fatal"], &[], &[], 1, &[FATAL]),
+    (
+        &["check", "hest", "-"],
+        &[],
+        &[],
+        0,
+        &[LISTED, "einj: none\n"],
+    ),
+    (
+        &["check", "hest", "einj"],
+        &[],
+        &[],
+        0,
+        &[LISTED, "einj: 9 entries\n"],
+    ),
+    (
+        &["decode", "block"],
+        &[],
+        &[],
+        0,
+        &["block of 27 bytes\n  severity fatal\n  raw 3 bytes\n"],
+    ),
+    (&["decode", "-"], &[], &[], 0, &["malformed 1 too short\n"]),
+    (&[], &[], &[], 2, &[USAGE]),
+    (&["replay", "hest", "einj", "fates"], &[], &[], 2, &[USAGE]),
+    (
+        &["replay", "sum", "-", "bad"],
+        &[],
+        &[],
+        3,
+        &["ghes: hest: 1 table: 4 checksum\n"],
+    ),
+    (
+        &["replay", "off", "-", "bad"],
+        &[],
+        &[],
+        3,
+        &["ghes: hest: 9 not built\n"],
+    ),
+    (
+        &["check", "hest", "hest"],
+        &[],
+        &[],
+        3,
+        &["ghes: einj: 1 table: 2 signature\n"],
+    ),
+    (
+        &["replay", "hest", "-", "bad"],
+        &[],
+        &[],
+        4,
+        &["ghes: script: line 3: 1 command\n"],
+    ),
+    (
+        &["replay", "hest", "-", "none"],
+        &[],
+        &[],
+        5,
+        &["ghes: read none: 1 failed\n"],
+    ),
+    (
+        &["replay", "hest", "-", "fates"],
+        &[2],
+        &[],
+        5,
+        &["ghes: read fates: 1 failed\n"],
+    ),
+    (
+        &["check", "hest", "einj"],
+        &[2],
+        &[],
+        5,
+        &["ghes: read einj: 1 failed\n"],
+    ),
+    (
+        &["decode", "block"],
+        &[1],
+        &[],
+        5,
+        &["ghes: read block: 1 failed\n"],
+    ),
+    (&["check", "hest", "einj"], &[], &[1], 6, &[]),
+    (&["replay", "hest", "-", "bad"], &[], &[1], 6, &[]),
+];
+
+#[test]
+fn a_run_ends_with_its_status_and_its_text(rt: HostRuntime) -> Result<(), Fail> {
+    let alloc = rt.alloc();
+    for (words, loads, puts, status, pieces) in &CASES {
+        let ran = ask(alloc, words, all_files(alloc, loads)?, puts)?;
+        let mut text = String::new(alloc);
+        for piece in *pieces {
+            text.push_str(piece)?;
+        }
+        assert_eq!(rt; ran.end.status, *status, "at {words:?}");
+        assert!(rt; ran.out.written() == text.as_bytes(), "at {words:?}");
+    }
+    Ok(())
 }
 
-// Replays a script on a table. The numbered puts fail.
-fn run(alloc: Global, table: &[u8], script: &[u8], failing: &[u64]) -> Result<Ran, Fail> {
-    let words = ["replay", "hest", "-", "script"];
-    ask(
-        alloc,
-        &words,
-        &[("hest", table), ("script", script)],
-        failing,
-    )
+#[test]
+fn the_calls_without_words_answer_as_the_words_do(rt: HostRuntime) -> Result<(), Fail> {
+    let alloc = rt.alloc();
+    // The second load fails: a listing without an injection table makes one.
+    let mut files = all_files(alloc, &[2])?;
+    let mut out = MemSink::new(alloc, 1000, &[])?;
+    let ends = [
+        check_run(alloc, "hest", "-", &mut files, &mut out),
+        check_run(alloc, "hest", "einj", &mut files, &mut out),
+        decode_run(alloc, "-", &mut files, &mut out),
+        decode_run(alloc, "x", &mut files, &mut out),
+    ];
+    let text = format!(in alloc;
+        "{LISTED}einj: none\nghes: read hest: 1 failed\nmalformed 1 too short\nghes: read x: 1 failed\n"
+    )?;
+    assert!(rt; ends == [0, 5, 0, 5]);
+    assert!(rt; out.written() == text.as_bytes());
+    Ok(())
 }
 
-// Replays a script on the table "one source".
-fn run_text(alloc: Global, script: &[u8]) -> Result<Ran, Fail> {
-    let table = one_source(alloc)?;
-    run(alloc, &table, script, &[])
+#[test]
+fn the_ledger_has_the_calls_the_blocks_the_reports_and_the_marks(
+    rt: HostRuntime,
+) -> Result<(), Fail> {
+    let alloc = rt.alloc();
+    let words = ["replay", "hest", "-", "fates"];
+    let ran = ask(alloc, &words, all_files(alloc, &[])?, &[])?;
+    let ledger = ran.end.ledger.ok_or("no ledger")?;
+    let (calls, taken, marks) = (&ledger.calls, &ledger.taken, &ledger.marks);
+    assert_eq!(rt;
+        (calls.len(), taken.len(), ledger.reports.len(), marks.len()),
+        (3, 2, 1, 7)
+    );
+    assert_eq!(rt; calls[0].reply.outcome, Outcome::Queued(1));
+    assert!(rt;
+        matches!(
+            &taken[0],
+            Taken::Delivered {
+                seq: 1,
+                reported: Reported::New(1),
+                ..
+            }
+        )
+    );
+    assert!(rt; matches!(&taken[1], Taken::Dropped { seq: 2, .. }));
+    assert_eq!(rt; (marks[4].line, marks[4].calls, marks[4].taken), (5, 2, 2));
+    assert_eq!(rt; (marks[6].line, marks[6].calls, marks[6].taken), (0, 3, 2));
+    Ok(())
+}
+
+#[test]
+fn long_inputs_are_taken_whole_and_cut_outputs_keep_a_front(rt: HostRuntime) -> Result<(), Fail> {
+    let alloc = rt.alloc();
+    // 100,000 lines of the script, of which each prints 15 bytes, in 366 pieces and a rest.
+    let mut script = Vec::new(alloc);
+    for _ in 0..100_000 {
+        script.extend_from_slice(b"nmi 1\n")?;
+    }
+    for (puts, status, length) in [(&[][..], 0, 1_500_000), (&[101][..], 6, 409_600)] {
+        let mut files = all_files(alloc, &[])?;
+        files.add("long", &script)?;
+        let ran = ask(alloc, &["replay", "hest", "-", "long"], files, puts)?;
+        assert_eq!(rt; ran.end.status, status);
+        assert_eq!(rt; ran.out.written().len() / 4096, length / 4096);
+        assert!(rt; ran.end.ledger.is_some());
+    }
+    Ok(())
 }
