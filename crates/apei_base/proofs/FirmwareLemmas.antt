@@ -1,8 +1,8 @@
 -- What one access of a source's memory answers and leaves, by the register or the area that it reaches.
 use Rattle.std.proofs.Common.{◌≡◌, ◌≤◌, ℕ, ◌+◌, ◌-◌, Bool, true, false, cond, eqb, ◌&&◌, List, length, Some, is_some, Result, Ok, Err, OnOk, OnErr, refl, sym, ap, ◌∙◌, subst, arith}
 use Rattle.std.proofs.lemmas.Bool.{eq-eqb}
-use Rattle.apei_base.specs.Bus.{Reach, Reads, Writes, Copies}
-use Rattle.apei_base.specs.Firmware.{Seen, status_value, area_bytes, standing, cleared, ack_written, after_access, IsAnswered, same_space, same_reach, is_reach, is_ack, block_status}
+use Rattle.apei_base.specs.Bus.{Reach, Reads, Writes, Copies, same_space, same_reach}
+use Rattle.apei_base.specs.Firmware.{Seen, status_value, area_bytes, standing, cleared, ack_written, after_access, IsAnswered, is_reach, is_ack, block_status}
 use Rattle.apei_base.specs.declared.region.Space.{Space}
 use Rattle.apei_base.specs.declared.region.Space.TheVariants.{Memory, Port}
 

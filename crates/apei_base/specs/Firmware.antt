@@ -2,10 +2,9 @@
 -- and 18.3.2.8 say of the registers and of the status block).
 use Rattle.std.specs.Prelude.{◌≡◌, ◌≢◌, ◌≤◌, ◌<◌, ℕ, ◌+◌, ◌-◌, ◌^◌, Bool, true, false, ◌&&◌, ◌||◌, ◌==◌, nat_lt, if◌then◌else◌, List, [], ◌++◌, length, take, drop, replicate, slice_get, Option, Some, None, is_some, unwrap_or, IsTrue}
 use Rattle.std.specs.List.{AllByRecursion}
-use Rattle.apei_base.specs.Bus.{Reach, Access, Reads, Writes, Copies}
+use Rattle.apei_base.specs.Bus.{Reach, Access, Reads, Writes, Copies, same_reach}
 use Rattle.apei_base.specs.Number.{number_at}
-use Rattle.apei_base.specs.declared.region.Space.{Space}
-use Rattle.apei_base.specs.declared.region.Space.TheVariants.{Memory, Port}
+use Rattle.apei_base.specs.declared.region.Space.TheVariants.{Memory}
 
 -- Where a source is read: its status address register, its area, which has an address and a length, and its read ack
 -- register, if it has one.
@@ -54,18 +53,6 @@ shown skip n block = take n (drop skip (block ++ replicate (skip + n) 0))
 abbrev pub area_bytes : ℕ → ℕ → Seen → List ℕ
 area_bytes skip n seen = shown skip n (unwrap_or (standing seen) [])
 
--- both are memory, or both are ports
-abbrev pub same_space : Space → Space → Bool
-same_space Memory Memory = true
-same_space Memory Port = false
-same_space Port Memory = false
-same_space Port Port = true
-
--- both reach the same cells in one access
-abbrev pub same_reach : Reach → Reach → Bool
-same_reach one other =
-    same_space one.space other.space && (one.address == other.address) && (one.width == other.width)
-
 -- this is it, where there is one
 abbrev pub is_reach : Option Reach → Reach → Bool
 is_reach None reach = false
@@ -112,12 +99,18 @@ pub record IsRaised (block : List ℕ) : Type 0 where
   pub whole : 20 ≤ length block
   pub stands : number_at 0 4 block ≢ 0
 
+-- what a read ack register can hold: a number of its width, and 0 where there is none (own choice)
+abbrev pub FitsAck : Option Reach → ℕ → Type 0
+FitsAck None cell = cell ≡ 0
+FitsAck (Some register) cell = cell < 2 ^ register.width
+
 -- What holds at all times, with so many accesses that failed.
 pub record IsSound (seen : Seen) (faults : ℕ) : Type 0 where
   pub placed : seen.layout.area ≢ 0
   -- the read ack register is neither the block status nor the status address register
   pub apart : is_ack seen.layout (block_status seen.layout) ≡ false
   pub other : is_ack seen.layout seen.layout.status ≡ false
+  pub fits : FitsAck seen.layout.ack seen.cell
   pub raised : AllByRecursion IsRaised seen.made
   pub few : length seen.made < 2 ^ 32 - 1
   pub made : seen.acknowledged ≤ length seen.made

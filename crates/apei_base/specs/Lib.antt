@@ -1,6 +1,7 @@
 pub mod Bus
 pub mod BusLaws
 pub mod Cut
+pub mod Determined
 pub mod Firmware
 pub mod Number
 pub mod Refusal

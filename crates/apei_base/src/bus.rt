@@ -1,5 +1,5 @@
-ghost use Rattle.std.specs.Prelude.{◌≡◌, ◌<◌, ◌≤◌, ℕ, ◌+◌, ◌%◌, ◌^◌, Option, IfOk, OnOk, OnErr};
-ghost use Rattle.apei_base.specs.Bus.{Access, Reads, Writes, Copies, Cells, Answers, reach_of};
+ghost use Rattle.std.specs.Prelude.{◌≡◌, ◌<◌, ℕ, ◌+◌, ◌^◌, Option, IfOk, OnErr};
+ghost use Rattle.apei_base.specs.Bus.{Access, Reads, Copies, Cells, Answers, IsOneAccess, CountsFaults, KeepsUnmapped, reach_of, write_of};
 
 use crate::Region;
 
@@ -28,30 +28,28 @@ pub trait Bus {
 
     /// Reads the value of a region, the lowest byte first.
     fn read(&mut self, at: &Region) -> Result<u64, BusFault>
-        ensures ok { IfOk result (λ value. step (state self.old) (Reads (reach_of at.now) value) (state self.new)) }
+        ensures access { IsOneAccess step (Reads (reach_of at.now))
+            (state self.old) result (state self.new) }
         ensures fits { IfOk result (λ value. value < 2 ^ at.now.width) }
-        ensures err { OnErr result (state self.new ≡ state self.old) }
-        ensures cause { OnErr result (faults self.old < faults self.new) }
-        ensures unfailed { OnOk result (faults self.new ≡ faults self.old) }
-        ensures grows { faults self.old ≤ faults self.new };
+        ensures count { CountsFaults result (faults self.old) (faults self.new) };
 
     /// Writes the low bits of a value to a region, as many as it is wide, the lowest byte first.
     fn write(&mut self, at: &Region, value: u64) -> Result<(), BusFault>
-        ensures ok { OnOk result (step (state self.old) (Writes (reach_of at.now) (value % 2 ^ at.now.width)) (state self.new)) }
-        ensures err { OnErr result (state self.new ≡ state self.old) }
-        ensures cause { OnErr result (faults self.old < faults self.new) }
-        ensures unfailed { OnOk result (faults self.new ≡ faults self.old) }
-        ensures grows { faults self.old ≤ faults self.new };
+        ensures access { IsOneAccess step (λ _. write_of at.now value)
+            (state self.old) result (state self.new) }
+        ensures count { CountsFaults result (faults self.old) (faults self.new) };
 
     /// Copies memory from `address + skip` on, as many bytes as `into` has. A failure leaves `into` as it was.
     fn copy(&mut self, address: u64, skip: usize, into: &mut [u8]) -> Result<(), BusFault>
-        ensures ok { OnOk result (step (state self.old) (Copies (address + skip) into.new) (state self.new)) }
-        ensures err { OnErr result (state self.new ≡ state self.old) }
+        ensures access { IsOneAccess step (λ _. Copies (address + skip) into.new)
+            (state self.old) result (state self.new) }
         ensures kept { OnErr result (into.new ≡ into.old) }
-        ensures cause { OnErr result (faults self.old < faults self.new) }
-        ensures unfailed { OnOk result (faults self.new ≡ faults self.old) }
-        ensures grows { faults self.old ≤ faults self.new };
+        ensures count { CountsFaults result (faults self.old) (faults self.new) };
 
     /// Where the cells are told, a read answers their value and a copy their bytes.
     ghost answers: { (before after : State) (access : Access) → step before access after → Answers (cells before) access };
+
+    /// Where the cells are told, one that is not mapped stays so, whatever is written.
+    ghost unmapped: { (before after : State) (access : Access) → step before access after
+        → KeepsUnmapped (cells before) (cells after) };
 }

@@ -9,6 +9,8 @@ mod bytes;
 mod fields;
 mod firmware;
 mod gas;
+mod laws;
+mod reach;
 mod region;
 mod sdt;
 #[cfg(test)]
@@ -19,5 +21,6 @@ pub use bytes::Bytes;
 pub use fields::{gas_at, u16_at, u32_at, u64_at};
 pub use firmware::{Firmware, clear, copy_area, read_ack, read_status, write_ack};
 pub use gas::{Gas, GasError};
+pub use laws::{a_standing_block_has_a_header_and_a_status, an_area_without_a_block_is_zeros};
 pub use region::{Region, Space};
 pub use sdt::{Sdt, SdtError};

@@ -131,6 +131,28 @@ fn a_region_of_memory_has_its_address_and_width(rt: HostRuntime) {
 }
 
 #[test]
+fn a_region_has_its_cells_and_the_low_bits_that_fit_it(rt: HostRuntime) -> Result<(), Fail> {
+    let value = 0x0123_4567_89ab_cdef;
+    for (width, low) in [(8, 0xef), (16, 0xcdef), (32, 0x89ab_cdef), (64, value)] {
+        let region = Region::memory(0x1000, width);
+        assert_eq!(rt; region.low_bits(value), low, "at {width}");
+    }
+    let region = Region::memory(0x1000, 8);
+    let mut port = Region::memory(0x1000, 8);
+    port.space = Space::Port;
+    let cases = [
+        ("itself", region, true),
+        ("another address", Region::memory(0x1001, 8), false),
+        ("another width", Region::memory(0x1000, 16), false),
+        ("a port", port, false),
+    ];
+    for (name, other, same) in cases {
+        assert_eq!(rt; region.is_same(&other), same, "{name}");
+    }
+    Ok(())
+}
+
+#[test]
 fn each_refusal_prints_its_number_and_its_words(rt: HostRuntime) -> Result<(), Fail> {
     let alloc = rt.alloc();
     let tables = [

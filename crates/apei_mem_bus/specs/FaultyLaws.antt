@@ -1,14 +1,15 @@
 -- What a memory means does not change by how many accesses are to fail.
 use Rattle.std.proofs.Common.{◌≡◌, ◌≤◌, ◌+◌, ℕ, Bool, true, false, cond, length, refl, ap, arith, nat_le}
 use Rattle.std.proofs.lemmas.List.Sums.{count_by-le-length}
-use Rattle.fault_plan.specs.Plan.{Calls, due}
+use Rattle.fault_plan.specs.Plan.{Calls}
 use Rattle.apei_base.specs.Bus.{Access, Reads, Writes, Copies}
+use Rattle.apei_mem_bus.specs.Failures.{AreDue}
 use Rattle.apei_mem_bus.specs.Faulty.{with_planned}
 use Rattle.apei_base.specs.Firmware.{Seen, cleared, ack_written, IsAnswered, IsSound, after_access}
 
 -- failures that have come due are planned
-pub few_planned : {faults : ℕ} (calls : Calls) → faults ≤ due calls → faults ≤ length calls.failing
-few_planned calls few = let most = count_by-le-length (λ number. nat_le number calls.made) calls.failing in omega arith
+pub few_planned : {faults : ℕ} (calls : Calls) → AreDue faults calls → faults ≤ length calls.failing
+few_planned calls few = let most = count_by-le-length (λ number. nat_le number calls.made) calls.failing in omega (arith, few.due)
 
 -- equal states mean the same
 pub planned_same : {State : Type 0} {seen known : Seen} (one other : State × ℕ) → one ≡ other → (one.0 ≡ other.0 → seen ≡ known) → with_planned one.1 seen ≡ with_planned other.1 known
@@ -45,6 +46,7 @@ planned_sound sound few = record {
   placed = sound.placed;
   apart = sound.apart;
   other = sound.other;
+  fits = sound.fits;
   raised = sound.raised;
   few = sound.few;
   made = sound.made;

@@ -6,8 +6,7 @@ use Rattle.std.specs.BTreeMap.{get}
 use Rattle.std.specs.Ordering.{nat_cmp}
 use Rattle.byteorder.specs.Endian.{little_bytes}
 use Rattle.fault_plan.specs.Plan.{Calls, no_calls, with_call, fails_next, one_if}
-use Rattle.apei_base.specs.Bus.{Reach, Access, Reads, Writes, Copies, Cells, value_at, bytes_at}
-use Rattle.apei_base.specs.Firmware.{same_space}
+use Rattle.apei_base.specs.Bus.{Reach, Access, Reads, Writes, Copies, Cells, same_space, value_at, bytes_at}
 use Rattle.apei_base.specs.declared.region.Space.{Space}
 use Rattle.apei_base.specs.declared.region.Space.TheVariants.{Memory, Port}
 use Rattle.apei_mem_bus.specs.declared.mem_bus.MemBus.{MemBus}

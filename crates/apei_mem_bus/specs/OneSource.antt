@@ -17,11 +17,10 @@ seen_by_parts status ack area room cell made acknowledged waits = record {
   planned = 0;
 }
 
--- it is sound, and each register is wide enough for what it holds (own choice)
-pub record IsWhole (seen : Seen) (cell_width : ℕ) : Type 0 where
+-- it is sound, and its status address register is wide enough for the address of the area (own choice)
+pub record IsWhole (seen : Seen) : Type 0 where
   pub sound : IsSound seen 0
   pub status : seen.layout.area < 2 ^ seen.layout.status.width
-  pub cell : seen.cell < 2 ^ cell_width
 
 -- an access answers and leaves what its meaning says (own choice)
 abbrev pub IsPlainStep : Seen → Access → Seen → Type 0

@@ -1,5 +1,5 @@
-ghost use Rattle.std.specs.Prelude.{◌≡◌, ◌<◌, ◌≤◌, ◌+◌, ◌%◌, ◌^◌, is_err, IfOk, OnOk, OnErr};
-ghost use Rattle.apei_base.specs.Bus.{Reads, Writes, Copies, reach_of};
+ghost use Rattle.std.specs.Prelude.{◌≡◌, ◌<◌, ◌+◌, ◌^◌, is_err, IfOk, OnErr};
+ghost use Rattle.apei_base.specs.Bus.{Reads, Copies, IsOneAccess, CountsFaults, reach_of, write_of};
 ghost use Rattle.apei_mem_bus.specs.Faulty.{faults_of, state_of, PassesOn, IsInnerStep};
 
 use crate::Attempts;
@@ -61,13 +61,14 @@ impl<P: Bus> Bus for Faulty<P> {
 
     ghost answers = { λ before after access step. P.answers before.0 after.0 access step.0 };
 
+    ghost unmapped = { λ before after access step. P.unmapped before.0 after.0 access step.0 };
+
     fn read(&mut self, at: &Region) -> Result<u64, BusFault>
-        ensures ok { IfOk result (λ value. IsInnerStep P.step (state_of P.state self.old) (Reads (reach_of at.now) value) (state_of P.state self.new)) }
+        ensures access { IsOneAccess (IsInnerStep P.step) (Reads (reach_of at.now))
+            (state_of P.state self.old) result (state_of P.state self.new) }
         ensures fits { IfOk result (λ value. value < 2 ^ at.now.width) }
-        ensures err { OnErr result (state_of P.state self.new ≡ state_of P.state self.old) }
-        ensures cause { OnErr result (faults_of P.faults self.old < faults_of P.faults self.new) }
-        ensures unfailed { OnOk result (faults_of P.faults self.new ≡ faults_of P.faults self.old) }
-        ensures grows { faults_of P.faults self.old ≤ faults_of P.faults self.new }
+        ensures count { CountsFaults result
+            (faults_of P.faults self.old) (faults_of P.faults self.new) }
         ensures passes { PassesOn P.faults self.old self.new (is_err result) }
     {
         self.attempts.begin()?;
@@ -75,11 +76,10 @@ impl<P: Bus> Bus for Faulty<P> {
     }
 
     fn write(&mut self, at: &Region, value: u64) -> Result<(), BusFault>
-        ensures ok { OnOk result (IsInnerStep P.step (state_of P.state self.old) (Writes (reach_of at.now) (value % 2 ^ at.now.width)) (state_of P.state self.new)) }
-        ensures err { OnErr result (state_of P.state self.new ≡ state_of P.state self.old) }
-        ensures cause { OnErr result (faults_of P.faults self.old < faults_of P.faults self.new) }
-        ensures unfailed { OnOk result (faults_of P.faults self.new ≡ faults_of P.faults self.old) }
-        ensures grows { faults_of P.faults self.old ≤ faults_of P.faults self.new }
+        ensures access { IsOneAccess (IsInnerStep P.step) (λ _. write_of at.now value)
+            (state_of P.state self.old) result (state_of P.state self.new) }
+        ensures count { CountsFaults result
+            (faults_of P.faults self.old) (faults_of P.faults self.new) }
         ensures passes { PassesOn P.faults self.old self.new (is_err result) }
     {
         self.attempts.begin()?;
@@ -87,12 +87,11 @@ impl<P: Bus> Bus for Faulty<P> {
     }
 
     fn copy(&mut self, address: u64, skip: usize, into: &mut [u8]) -> Result<(), BusFault>
-        ensures ok { OnOk result (IsInnerStep P.step (state_of P.state self.old) (Copies (address + skip) into.new) (state_of P.state self.new)) }
-        ensures err { OnErr result (state_of P.state self.new ≡ state_of P.state self.old) }
+        ensures access { IsOneAccess (IsInnerStep P.step) (λ _. Copies (address + skip) into.new)
+            (state_of P.state self.old) result (state_of P.state self.new) }
         ensures kept { OnErr result (into.new ≡ into.old) }
-        ensures cause { OnErr result (faults_of P.faults self.old < faults_of P.faults self.new) }
-        ensures unfailed { OnOk result (faults_of P.faults self.new ≡ faults_of P.faults self.old) }
-        ensures grows { faults_of P.faults self.old ≤ faults_of P.faults self.new }
+        ensures count { CountsFaults result
+            (faults_of P.faults self.old) (faults_of P.faults self.new) }
         ensures passes { PassesOn P.faults self.old self.new (is_err result) }
     {
         self.attempts.begin()?;
@@ -110,5 +109,7 @@ impl<P: Firmware> Firmware for Faulty<P> {
 
     ghost moves = { λ before after access step. planned_moves access _ _ _ _ step.1 (P.moves before.inner after.inner access step.0) };
 
-    ghost sound = { λ port. planned_sound (P.sound port.inner) (few_planned port.attempts.plan port.attempts.few) };
+    ghost looks = { λ before after access step look. P.looks before.inner after.inner access step.0 look };
+
+    ghost sound = { λ port. planned_sound (P.sound port.inner) (few_planned port.attempts.plan port.attempts.are_due) };
 }

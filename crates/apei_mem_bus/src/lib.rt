@@ -4,6 +4,7 @@
 
 mod attempts;
 mod faulty;
+mod laws;
 mod mem_bus;
 mod one_source;
 #[cfg(test)]
@@ -11,5 +12,6 @@ mod tests;
 
 pub use attempts::Attempts;
 pub use faulty::Faulty;
+pub use laws::an_access_in_memory_has_one_outcome;
 pub use mem_bus::MemBus;
 pub use one_source::OneSource;

@@ -2,8 +2,7 @@ ghost use Rattle.std.specs.Prelude.{◌≡◌, ◌<◌, ◌≤◌, ◌+◌, ◌/
 ghost use Rattle.std.specs.BTreeMap.{get};
 ghost use Rattle.std.specs.Ordering.{nat_cmp};
 ghost use Rattle.apei_mem_bus.specs.MemBus.{is_in_run, is_in_runs, with_bytes};
-ghost use Rattle.apei_base.specs.Bus.{Reads, Writes, Copies, reach_of};
-ghost use Rattle.apei_base.specs.Firmware.{same_space};
+ghost use Rattle.apei_base.specs.Bus.{Reads, Copies, IsOneAccess, CountsFaults, reach_of, write_of};
 ghost use Rattle.apei_base.specs.declared.region.Space.{Space};
 
 use crate::Attempts;
@@ -55,16 +54,6 @@ fn put_bytes(bank: &mut BTreeMap<u64, u8>, first: u64, bytes: &[u8])
     }
 }
 
-// Both are memory, or both are ports.
-fn is_same(one: Space, other: Space) -> bool
-    ensures { result ≡ same_space one other }
-{
-    match one {
-        Space::Memory => other == Space::Memory,
-        Space::Port => other == Space::Port,
-    }
-}
-
 // The cells of one space that are in the runs, all 0.
 fn mapped_cells(
     alloc: Global,
@@ -75,7 +64,7 @@ fn mapped_cells(
 {
     let mut bank = BTreeMap::new(alloc);
     for (of, first, count) in runs {
-        if is_same(*of, space) {
+        if of.is_same(space) {
             map_run(&mut bank, *first, *count)?;
         }
     }
@@ -167,7 +156,7 @@ impl MemBus {
 impl Bus for MemBus {
     ghost use Rattle.apei_base.specs.Bus.{Cells};
     ghost use Rattle.apei_mem_bus.specs.MemBus.{cells_of, failed_of, IsMemStep, IsCounted};
-    ghost use Rattle.apei_mem_bus.specs.BusLaws.{mem_answers};
+    ghost use Rattle.apei_mem_bus.specs.BusLaws.{mem_answers, mem_unmapped};
 
     ghost State = { Cells };
 
@@ -181,13 +170,13 @@ impl Bus for MemBus {
 
     ghost answers = { mem_answers };
 
+    ghost unmapped = { mem_unmapped };
+
     fn read(&mut self, at: &Region) -> Result<u64, BusFault>
-        ensures ok { IfOk result (λ value. IsMemStep (cells_of self.old) (Reads (reach_of at.now) value) (cells_of self.new)) }
+        ensures access { IsOneAccess IsMemStep (Reads (reach_of at.now))
+            (cells_of self.old) result (cells_of self.new) }
         ensures fits { IfOk result (λ value. value < 2 ^ at.now.width) }
-        ensures err { OnErr result (cells_of self.new ≡ cells_of self.old) }
-        ensures cause { OnErr result (failed_of self.old < failed_of self.new) }
-        ensures unfailed { OnOk result (failed_of self.new ≡ failed_of self.old) }
-        ensures grows { failed_of self.old ≤ failed_of self.new }
+        ensures count { CountsFaults result (failed_of self.old) (failed_of self.new) }
         ensures counted { IsCounted self.old self.new (is_err result) }
     {
         self.attempts.begin()?;
@@ -195,11 +184,9 @@ impl Bus for MemBus {
     }
 
     fn write(&mut self, at: &Region, value: u64) -> Result<(), BusFault>
-        ensures ok { OnOk result (IsMemStep (cells_of self.old) (Writes (reach_of at.now) (value % 2 ^ at.now.width)) (cells_of self.new)) }
-        ensures err { OnErr result (cells_of self.new ≡ cells_of self.old) }
-        ensures cause { OnErr result (failed_of self.old < failed_of self.new) }
-        ensures unfailed { OnOk result (failed_of self.new ≡ failed_of self.old) }
-        ensures grows { failed_of self.old ≤ failed_of self.new }
+        ensures access { IsOneAccess IsMemStep (λ _. write_of at.now value)
+            (cells_of self.old) result (cells_of self.new) }
+        ensures count { CountsFaults result (failed_of self.old) (failed_of self.new) }
         ensures counted { IsCounted self.old self.new (is_err result) }
     {
         self.attempts.begin()?;
@@ -208,12 +195,10 @@ impl Bus for MemBus {
     }
 
     fn copy(&mut self, address: u64, skip: usize, into: &mut [u8]) -> Result<(), BusFault>
-        ensures ok { OnOk result (IsMemStep (cells_of self.old) (Copies (address + skip) into.new) (cells_of self.new)) }
-        ensures err { OnErr result (cells_of self.new ≡ cells_of self.old) }
+        ensures access { IsOneAccess IsMemStep (λ _. Copies (address + skip) into.new)
+            (cells_of self.old) result (cells_of self.new) }
         ensures kept { OnErr result (into.new ≡ into.old) }
-        ensures cause { OnErr result (failed_of self.old < failed_of self.new) }
-        ensures unfailed { OnOk result (failed_of self.new ≡ failed_of self.old) }
-        ensures grows { failed_of self.old ≤ failed_of self.new }
+        ensures count { CountsFaults result (failed_of self.old) (failed_of self.new) }
         ensures counted { IsCounted self.old self.new (is_err result) }
     {
         self.attempts.begin()?;

@@ -1,50 +1,36 @@
-//! The smallest memory of one source that is a `Firmware`. It fails at no access.
+//! The smallest memory of one source that is a `Firmware`.
 ghost use Rattle.std.specs.Prelude.{◌≡◌, ◌<◌, ◌&&◌, ◌==◌, ◌%◌, ◌^◌, ◌+◌, ℕ, Some, None, is_some, unwrap_or, option_copied, vec_len, OnSome, length, slice_index, take, drop, IsTrue, IfOk};
 ghost use Rattle.std.specs.Bool.{OnTrue};
 ghost use Rattle.std.proofs.Props.{props};
-ghost use Rattle.apei_base.specs.Bus.{reach_of};
-ghost use Rattle.apei_base.specs.Firmware.{Seen, standing, same_reach, block_status, status_value, shown};
+ghost use Rattle.apei_base.specs.Bus.{reach_of, same_reach};
+ghost use Rattle.apei_base.specs.Firmware.{Seen, standing, block_status, status_value, shown};
 ghost use Rattle.apei_mem_bus.specs.OneSource.{seen_by_parts, raised_prop, IsWhole, IsPlainStep};
 ghost use Rattle.apei_base.specs.Width.{is_width};
 
 use apei_base::{Bus, BusFault, Bytes, Firmware, Region, Space};
 
-// Its registers, where its area begins and how long it is, and what firmware and receiver did there.
+/// The memory of one source of version 2, for tests of its receivers. It fails at no access and tells no cells.
+///
+/// Source: own choice.
 #[derive(Drop)]
 pub struct OneSource {
+    /// The status address register.
     pub status: Region,
+    /// The read ack register.
     pub ack: Region,
+    /// The address of the area.
     pub area: u64,
+    /// The length of the area in bytes.
     pub room: u32,
+    /// What the read ack register holds.
     pub cell: u64,
+    /// All blocks that were made, in order.
     pub made: Vec<Bytes>,
+    /// How many of them are acknowledged.
     pub acknowledged: usize,
+    /// Whether the acknowledgement of a cleared block is awaited.
     pub waits: bool,
-    pub ghost is: { IsWhole (seen_by_parts (reach_of status) (reach_of ack) area room cell made.items acknowledged waits) ack.width } by { Prim.hlevel (props, raised_prop) },
-}
-
-// Both reach the same cells.
-fn is_same(one: &Region, other: &Region) -> bool
-    ensures { result ≡ same_reach (reach_of one.now) (reach_of other.now) }
-{
-    let same_space = match one.space {
-        Space::Memory => other.space == Space::Memory,
-        Space::Port => other.space == Space::Port,
-    };
-    same_space && one.address == other.address && one.width == other.width
-}
-
-// As many low bits of a value as a register is wide.
-fn low_bits(value: u64, width: u8) -> u64
-    requires { IsTrue (is_width width) }
-    ensures { result ≡ value % 2 ^ width }
-{
-    match width {
-        8 => value % 0x100,
-        16 => value % 0x1_0000,
-        32 => value % 0x1_0000_0000,
-        _ => value,
-    }
+    pub ghost is: { IsWhole (seen_by_parts (reach_of status) (reach_of ack) area room cell made.items acknowledged waits) } by { Prim.hlevel (props, raised_prop) },
 }
 
 // The bytes of a block from a place on, and zeros behind it.
@@ -78,7 +64,7 @@ impl OneSource {
         ensures below { OnTrue result (self.now.acknowledged < vec_len self.now.made) }
         ensures value { result ≡ (same_reach (reach_of at.now) (block_status (⟦<OneSource as Bus>⟧.state self.now).layout) && (value == 0) && is_some (standing (⟦<OneSource as Bus>⟧.state self.now))) }
     {
-        is_same(at, &Region::memory(self.area, 32)) && value == 0 && self.standing().is_some()
+        at.is_same(&Region::memory(self.area, 32)) && value == 0 && self.standing().is_some()
     }
 
     // Where the area is, once a block has stood.
@@ -109,11 +95,13 @@ impl Bus for OneSource {
 
     ghost answers = { λ before after access step. untold_answers access };
 
+    ghost unmapped = { λ before after access step. tt };
+
     #[tactic(auto, unfolding(apei_base::specs::Firmware::after_access, apei_base::specs::Firmware::IsAnswered))]
     fn read(&mut self, at: &Region) -> Result<u64, BusFault> {
-        if is_same(&self.status, at) {
+        if self.status.is_same(at) {
             Ok(self.status_value())
-        } else if is_same(&self.ack, at) {
+        } else if self.ack.is_same(at) {
             Ok(self.cell)
         } else {
             Ok(0)
@@ -122,11 +110,11 @@ impl Bus for OneSource {
 
     #[tactic(auto, unfolding(apei_base::specs::Firmware::after_access, apei_base::specs::Firmware::IsAnswered))]
     fn write(&mut self, at: &Region, value: u64) -> Result<(), BusFault> {
-        let value = low_bits(value, at.width);
+        let value = at.low_bits(value);
         if self.clears(at, value) {
             self.acknowledged += 1;
             self.waits = true;
-        } else if is_same(&self.ack, at) {
+        } else if self.ack.is_same(at) {
             self.cell = value;
             self.waits = false;
         }
@@ -145,11 +133,15 @@ impl Bus for OneSource {
 }
 
 impl Firmware for OneSource {
+    ghost use Rattle.std.proofs.Common.{refl};
+
     ghost seen = { Self.state };
 
     ghost same = { λ one other equal. equal };
 
     ghost moves = { λ before after access step. step };
+
+    ghost looks = { λ before after access step look. refl };
 
     ghost sound = { λ port. port.is.sound };
 }

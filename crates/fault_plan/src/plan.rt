@@ -1,4 +1,8 @@
+ghost use Rattle.std.specs.Prelude.{◌≡◌, ◌≤◌, ◌+◌, [], IfOk, OnOk, OnErr};
+ghost use Rattle.fault_plan.specs.Plan.{with_numbers};
+
 use std::alloc::{AllocError, Global};
+use std::collections::BTreeSet;
 use std::marker::Model;
 
 /// Numbers the calls of a simulated device from 1, and knows which of them are to fail.
@@ -7,7 +11,7 @@ use std::marker::Model;
 #[derive(Drop)]
 pub struct Plan {
     made: u64,
-    failing: Vec<u64>,
+    failing: BTreeSet<u64>,
 }
 
 impl Model for Plan {
@@ -15,12 +19,22 @@ impl Model for Plan {
 
     ghost Value = { Calls };
 
-    ghost view = { λ p. record { made = p.made; failing = p.failing.items } };
+    ghost view = { λ p. record { made = p.made; failing = p.failing.keys } };
+}
+
+// The numbers of a list, each once.
+fn numbers_of(alloc: Global, list: &[u64]) -> Result<BTreeSet<u64>, AllocError>
+    ensures { IfOk result (λ numbers. numbers.keys ≡ with_numbers [] list.now) }
+{
+    let mut numbers = BTreeSet::new(alloc);
+    for number in list {
+        numbers.insert(*number)?;
+    }
+    Ok(numbers)
 }
 
 impl Plan {
-    ghost use Rattle.std.specs.Prelude.{◌≡◌, ◌≤◌, ◌<◌, ◌+◌, ◌^◌, IfOk};
-    ghost use Rattle.fault_plan.specs.Plan.{no_calls, with_call, fails_next, due, one_if};
+    ghost use Rattle.fault_plan.specs.Plan.{no_calls, with_call, with_failing, fails_next, due, one_if};
 
     /// No call yet. The calls whose numbers are in `failing` are to fail, in any order.
     pub fn new(alloc: Global, failing: &[u64]) -> Result<Plan, AllocError>
@@ -28,8 +42,18 @@ impl Plan {
     {
         Ok(Plan {
             made: 0,
-            failing: Vec::from_slice(alloc, failing)?,
+            failing: numbers_of(alloc, failing)?,
         })
+    }
+
+    /// One number more is to fail, if its call was not made yet. After an error the plan is what it was.
+    pub fn add(&mut self, number: u64) -> Result<(), AllocError>
+        ensures ok { OnOk result (self.new ≡ with_failing number self.old) }
+        ensures err { OnErr result (self.new ≡ self.old) }
+        ensures due { due self.old ≤ due self.new }
+    {
+        self.failing.insert(number)?;
+        Ok(())
     }
 
     /// How many calls were made. It stays at 2^64 - 1 once it is there.
@@ -44,7 +68,7 @@ impl Plan {
         ensures value { result ≡ fails_next self.old }
         ensures counted { self.new ≡ with_call self.old }
         ensures due { due self.old + one_if result ≤ due self.new }
-        ensures fits { due self.new < 2 ^ 64 }
+        ensures grows { self.old.made ≤ self.new.made }
     {
         match self.made.checked_add(1) {
             None => false,

@@ -1,5 +1,8 @@
 use crate::{Faulty, MemBus, OneSource};
-use apei_base::{Bus, BusFault, Bytes, Firmware, Region, Space};
+use apei_base::{
+    Bus, BusFault, Bytes, Firmware, Region, Space, clear, copy_area, read_ack, read_status,
+    write_ack,
+};
 use std::alloc::{AllocError, Global};
 use std::test::Fail;
 
@@ -82,5 +85,36 @@ fn a_firmware_under_faults_gives_each_block_in_turn(rt: HostRuntime) -> Result<(
     for answer in answers {
         assert_eq!(rt; receive(&mut port), answer);
     }
+    Ok(())
+}
+
+#[test]
+fn each_access_of_a_receiver_is_one(rt: HostRuntime) -> Result<(), Fail> {
+    let alloc = rt.alloc();
+    let status = Region::memory(0x1000, 64);
+    let ack = Region::memory(0x1008, 64);
+    let block = Bytes::copy(alloc, &[1; 20])?;
+    let source = OneSource {
+        status,
+        ack,
+        area: 0x2000,
+        room: 64,
+        cell: 0,
+        made: vec![in alloc; block]?,
+        acknowledged: 0,
+        waits: false,
+    };
+    let mut port = Faulty::new(alloc, source, &[])?;
+    let mut bytes = [0xee; 3];
+    assert_eq!(rt; read_status(&mut port, &status), Ok(0x2000));
+    assert_eq!(rt; port.accesses(), 1);
+    assert_eq!(rt; copy_area(&mut port, 0x2000, 18, &mut bytes), Ok(()));
+    assert_eq!(rt; (port.accesses(), bytes), (2, [1, 1, 0]));
+    assert_eq!(rt; clear(&mut port, 0x2000), Ok(()));
+    assert_eq!(rt; port.accesses(), 3);
+    assert_eq!(rt; read_ack(&mut port, &ack), Ok(0));
+    assert_eq!(rt; port.accesses(), 4);
+    assert_eq!(rt; write_ack(&mut port, &ack, 1), Ok(()));
+    assert_eq!(rt; port.accesses(), 5);
     Ok(())
 }

@@ -10,9 +10,9 @@ returns-clause-value g c =
     let seen = g.P.Firmware.seen c.args.port.now in
     IfOk-weaker c.read.result _ (λ value. value ≡ status_value seen)
     (λ value steps. status_answer seen (reach_of c.args.register.now) value c.requires (g.met.P.Firmware.moves _ _ _ steps).0)
-    c.read.ensures.ok
+    c.read.ensures.access.ok
 
 pub returns-clause-kept : goal.returns-clause-kept
 returns-clause-kept g c =
-    same_or_kept g.P.Firmware.seen g.P.Bus.state c.read.result c.args.port.now c.read.new.self g.met.P.Firmware.same c.read.ensures.err
-    (IfOk-weaker c.read.result _ _ (λ value steps. (g.met.P.Firmware.moves _ _ _ steps).1 ∙ read_leaves _ (reach_of c.args.register.now) value) c.read.ensures.ok)
+    same_or_kept g.P.Firmware.seen g.P.Bus.state c.read.result c.args.port.now c.read.new.self g.met.P.Firmware.same c.read.ensures.access.err
+    (IfOk-weaker c.read.result _ _ (λ value steps. (g.met.P.Firmware.moves _ _ _ steps).1 ∙ read_leaves _ (reach_of c.args.register.now) value) c.read.ensures.access.ok)
