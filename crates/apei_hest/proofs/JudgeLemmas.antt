@@ -1,24 +1,22 @@
 -- What a walk over the structures of a table says of the table.
 use Rattle.std.proofs.Common.{◌≡◌, ◌≤◌, ◌<◌, ℕ, ◌+◌, ◌==◌, true, false, cond, List, [], length, drop, nat_lt, codes, sym, ap, subst, ◌∙◌, arith, Some, None, Result, Ok, Err}
-use Rattle.std.specs.Option.{option_or}
-use Rattle.std.specs.Result.{IsErrAnd}
+use Rattle.std.specs.Option.{option_or, option_map}
 use Rattle.std.proofs.lemmas.Bool.{le-ltb}
 use Rattle.std.proofs.lemmas.Bool.Decides.{nat_tests}
 use Rattle.apei_base.specs.Cut.{joined}
 use Rattle.apei_base.specs.Number.{number_at}
 use Rattle.apei_base.specs.Table.{sdt_refusal}
 use Rattle.apei_hest.specs.Refusal.{AreAccepted}
-use Rattle.apei_hest.specs.Hest.{refusal_at, counted, refused, answer_at, Walks, no_table, front_refusal, JudgedBy, Judges, HasCause, Reads}
+use Rattle.apei_hest.specs.Hest.{refusal_at, counted, refused, answer_at, Walks, front_refusal, JudgedBy, Judges}
 use Rattle.apei_hest.specs.Admitted.{IsWalked, StopsWith}
 use Rattle.apei_hest.specs.declared.error.HestError.{HestError}
-use Rattle.apei_hest.specs.declared.error.HestError.TheVariants.{Truncated, CountMismatch}
+use Rattle.apei_hest.specs.declared.error.HestError.TheVariants.{Table, Truncated, CountMismatch}
 use Rattle.apei_hest.specs.declared.source.Source.{Source}
-use Rattle.apei_hest.proofs.WalkLemmas.{recaused}
 
 -- a table that has a count
 pub front_accepted : (bytes : List ℕ) → sdt_refusal (codes "HEST") bytes ≡ None → 40 ≤ length bytes → front_refusal bytes ≡ None
 front_accepted bytes table long =
-    ap (λ o. option_or (no_table o) (cond (nat_lt (length bytes) 40) (Some (Truncated 36)) None)) table
+    ap (λ o. option_or (option_map Table o) (cond (nat_lt (length bytes) 40) (Some (Truncated 36)) None)) table
     ∙ ap (λ b. cond b (Some (Truncated 36)) None) (le-ltb (length bytes) 40 long)
 
 -- its structures judge it
@@ -26,7 +24,7 @@ pub judged_by_walk : (bytes : List ℕ) (answer : Result (List Source) HestError
 judged_by_walk bytes answer front walks = subst (λ o. JudgedBy o bytes answer) (sym front) walks
 
 -- the rest that is not empty decides by its refusal
-answer_of_refusal : (said : ℕ) (before : List Source) (at : ℕ) (rest : List ℕ) (error : HestError) → 0 < length rest → refusal_at before at rest ≡ Some error → answer_at said before at rest ≡ Some (Err error)
+pub answer_of_refusal : (said : ℕ) (before : List Source) (at : ℕ) (rest : List ℕ) (error : HestError) → 0 < length rest → refusal_at before at rest ≡ Some error → answer_at said before at rest ≡ Some (Err error)
 answer_of_refusal said before at rest error left e =
     let more : (length rest == 0) ≡ false = grind (arith, nat_tests) in
     ap (λ b. cond b (Some (counted said before)) (refused (refusal_at before at rest))) more ∙ ap refused e
@@ -59,13 +57,9 @@ counted_right said found e = let same : (said == length found) ≡ true = grind 
 pub counted_wrong : (said : ℕ) (found : List Source) → (said ≡ length found → ⊥) → counted said found ≡ Err (CountMismatch said (length found))
 counted_wrong said found e = let other : (said == length found) ≡ false = grind (arith, nat_tests) in ap (λ b. cond b (Ok found) (Err (CountMismatch said (length found)))) other
 
--- a table whose walk hands on a refusal
-pub reads_refused : (bytes : List ℕ) (result : Result (List Source) HestError) (error : HestError) → front_refusal bytes ≡ None → IsErrAnd result (λ e. e ≡ error) → HasCause (StopsWith (drop 40 bytes)) error → Reads bytes result
-reads_refused bytes (Ok found) error front same here = absurd same
-reads_refused bytes (Err e) error front same here =
-    subst (HasCause (λ cause. Judges bytes (Err cause))) (sym same)
-    (recaused (StopsWith (drop 40 bytes)) (λ cause. Judges bytes (Err cause))
-    (λ cause s. judged_by_walk bytes (Err cause) front (walks_stopped (number_at 36 4 bytes) (drop 40 bytes) cause s)) error here)
+-- a table whose walk stops
+pub judges_stopped : (bytes : List ℕ) (error : HestError) → front_refusal bytes ≡ None → StopsWith (drop 40 bytes) error → Judges bytes (Err error)
+judges_stopped bytes error front stops = judged_by_walk bytes (Err error) front (walks_stopped (number_at 36 4 bytes) (drop 40 bytes) error stops)
 
 -- a table whose walk ends
 pub judges_whole : (bytes : List ℕ) (structures : List (List ℕ)) (found : List Source) → front_refusal bytes ≡ None → IsWalked (drop 40 bytes) structures [] found → Judges bytes (counted (number_at 36 4 bytes) found)

@@ -1,7 +1,7 @@
 -- A table is judged in one way, and an accepted one is its structures.
-use Rattle.std.proofs.Common.{◌≡◌, ◌≤◌, ◌↔◌, ℕ, ◌+◌, ◌==◌, nat_lt, Bool, true, false, cond, not, List, [], ◌∷◌, ◌++◌, length, take, drop, codes, refl, sym, ap, subst, ◌∙◌, arith, append_assoc, append-nil, Option, Some, None, Result, Ok, Err}
+use Rattle.std.proofs.Common.{◌≡◌, ◌≤◌, ◌↔◌, ℕ, ◌+◌, ◌==◌, nat_lt, Bool, true, false, cond, not, List, [], ◌∷◌, ◌++◌, length, take, drop, codes, refl, sym, ap, subst, ◌∙◌, arith, append_assoc, append-nil, Option, Some, None, is_none, unwrap_or, Result, Ok, Err}
 use Rattle.std.specs.List.{AllByRecursion}
-use Rattle.std.specs.Option.{option_or}
+use Rattle.std.specs.Option.{option_or, option_map}
 use Rattle.std.proofs.lemmas.Bool.{le-ltb, eqb-true}
 use Rattle.std.proofs.lemmas.Bool.Decides.{nat_tests}
 use Rattle.std.proofs.Math.Dec.{eqb-suc-zero}
@@ -9,14 +9,15 @@ use Rattle.std.proofs.lemmas.List.{length-append, take_at, drop_at}
 use Rattle.apei_base.proofs.TableLemmas.{table_of, refusal_of_table}
 use Rattle.apei_base.specs.Cut.{joined, CutsInto}
 use Rattle.apei_base.specs.Number.{number_at}
+use Rattle.apei_base.specs.Refusal.{first_of}
 use Rattle.apei_base.specs.Table.{IsTable, sdt_refusal}
 use Rattle.apei_base.specs.declared.sdt.SdtError.{SdtError}
-use Rattle.apei_hest.specs.Structure.{IsStructure, structure_length, structure_at, length_refusal, structure_refusal}
+use Rattle.apei_hest.specs.Structure.{IsStructure, structure_length, structure_at, type_of, structure_refusal}
 use Rattle.apei_hest.specs.Source.{source_of, sources_from}
 use Rattle.apei_hest.specs.Refusal.{source_refusal, AreAccepted}
-use Rattle.apei_hest.specs.Hest.{IsHest, refusal_at, counted, refused, answer_at, Walks, no_table, front_refusal, JudgedBy, Judges}
+use Rattle.apei_hest.specs.Hest.{IsHest, refusal_at, counted, refused, answer_at, Walks, front_refusal, JudgedBy, Judges}
 use Rattle.apei_hest.specs.declared.error.HestError.{HestError}
-use Rattle.apei_hest.specs.declared.error.HestError.TheVariants.{Truncated, CountMismatch}
+use Rattle.apei_hest.specs.declared.error.HestError.TheVariants.{Table, Truncated, SourceType, CountMismatch}
 use Rattle.apei_hest.specs.declared.source.Source.{Source}
 use Rattle.apei_hest.proofs.StructureLemmas.{structure_at_least, structure_length-append, structure_at-append}
 use Rattle.apei_hest.proofs.JudgeLemmas.{front_accepted, judged_by_walk, counted_right}
@@ -31,9 +32,12 @@ structure_refusal-append at s later is =
     let more = structure_at_least s (length s) is in
     let size = length-append s later in
     let known = structure_length-append s later is in
-    ap (λ b. cond b (Some (Truncated at)) (length_refusal at (s ++ later) (structure_length (s ++ later)))) (le-ltb (length (s ++ later)) 4 (omega arith))
-    ∙ ap (length_refusal at (s ++ later)) known
-    ∙ ap (λ b. cond b (Some (Truncated at)) None) (le-ltb (length (s ++ later)) (length s) (omega arith))
+    let bytes = s ++ later in
+    let rows : Option ℕ → Option HestError = λ n. first_of (
+    (is_none n, SourceType at (type_of bytes)) ∷ (nat_lt (length bytes) (unwrap_or n 0), Truncated at) ∷ []) in
+    ap (λ b. cond b (Some (Truncated at)) (rows (structure_length bytes))) (le-ltb (length bytes) 4 (omega arith))
+    ∙ ap rows known
+    ∙ ap (λ b. cond b (Some (Truncated at)) None) (le-ltb (length bytes) (length s) (omega arith))
 
 -- an accepted structure at the front does not end a walk
 no_answer : (said at : ℕ) (before : List Source) (s later : List ℕ) → IsStructure s → source_refusal before (source_of s at) ≡ None → answer_at said before at (s ++ later) ≡ None
@@ -56,12 +60,15 @@ same_front s t later later' is is' e =
     )
 
 -- what a walk answers behind a structure
-behind : (said at : ℕ) (before : List Source) (s : List ℕ) (xs : List (List ℕ)) (rest : List ℕ) (answer : Answer) → answer_at said (before ++ sources_from at (s ∷ xs)) (at + length (joined (s ∷ xs))) rest ≡ Some answer → answer_at said ((before ++ source_of s at ∷ []) ++ sources_from (at + length s) xs) ((at + length s) + length (joined xs)) rest ≡ Some answer
-behind said at before s xs rest answer e =
+pub shifted : (said at : ℕ) (before : List Source) (s : List ℕ) (xs : List (List ℕ)) (rest : List ℕ) → answer_at said ((before ++ source_of s at ∷ []) ++ sources_from (at + length s) xs) ((at + length s) + length (joined xs)) rest ≡ answer_at said (before ++ sources_from at (s ∷ xs)) (at + length (joined (s ∷ xs))) rest
+shifted said at before s xs rest =
     let size = length-append s (joined xs) in
     let place : (at + length s) + length (joined xs) ≡ at + length (joined (s ∷ xs)) = omega arith in
     ap (λ found. answer_at said found ((at + length s) + length (joined xs)) rest) (append_assoc before (source_of s at ∷ []) (sources_from (at + length s) xs))
-    ∙ ap (λ n. answer_at said (before ++ sources_from at (s ∷ xs)) n rest) place ∙ e
+    ∙ ap (λ n. answer_at said (before ++ sources_from at (s ∷ xs)) n rest) place
+
+behind : (said at : ℕ) (before : List Source) (s : List ℕ) (xs : List (List ℕ)) (rest : List ℕ) (answer : Answer) → answer_at said (before ++ sources_from at (s ∷ xs)) (at + length (joined (s ∷ xs))) rest ≡ Some answer → answer_at said ((before ++ source_of s at ∷ []) ++ sources_from (at + length s) xs) ((at + length s) + length (joined xs)) rest ≡ Some answer
+behind said at before s xs rest answer e = shifted said at before s xs rest ∙ e
 
 -- a rest that begins with an accepted structure does not decide
 goes_on : (said at : ℕ) (before : List Source) (rest s : List ℕ) (ss : List (List ℕ)) (rest' : List ℕ) (answer : Answer) → IsStructure s → source_refusal before (source_of s at) ≡ None → rest ≡ joined (s ∷ ss) ++ rest' → answer_at said (before ++ []) (at + 0) rest ≡ Some answer → ⊥
@@ -113,12 +120,12 @@ front_none None bytes found j = (refl, j)
 front_none (Some error) bytes found j = absurd (cc j)
 
 -- no refusal of two
-neither : (why : Option SdtError) (later : Option HestError) → option_or (no_table why) later ≡ None → (why ≡ None) × (later ≡ None)
+pub neither : (why : Option SdtError) (later : Option HestError) → option_or (option_map Table why) later ≡ None → (why ≡ None) × (later ≡ None)
 neither None later e = (refl, e)
 neither (Some why) later e = absurd (cc e)
 
 -- a test that is not met
-not_met : (b : Bool) (error : HestError) → cond b (Some error) None ≡ None → b ≡ false
+pub not_met : (b : Bool) (error : HestError) → cond b (Some error) None ≡ None → b ≡ false
 not_met true error e = absurd (cc e)
 not_met false error e = refl
 

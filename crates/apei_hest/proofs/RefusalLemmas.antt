@@ -1,8 +1,9 @@
 -- What is known of a source that is not refused.
-use Rattle.std.proofs.Common.{◌≡◌, ◌<◌, ℕ, Bool, true, false, cond, List, length, refl, sym, ap, ◌∙◌, arith, Option, Some, None}
+use Rattle.std.proofs.Common.{◌≡◌, ◌<◌, ℕ, Bool, true, false, cond, List, [], length, refl, sym, ap, ◌∙◌, arith, Option, Some, None}
 use Rattle.std.specs.Prelude.{nat_le}
 use Rattle.std.proofs.lemmas.Bool.Decides.{nat_tests}
-use Rattle.apei_hest.specs.Refusal.{enabled, has_id, enabled_refusal, source_refusal}
+use Rattle.apei_base.specs.Refusal.{first_of}
+use Rattle.apei_hest.specs.Refusal.{enabled, has_id, enabled_rows, source_refusal}
 use Rattle.apei_hest.specs.declared.error.HestError.{HestError}
 use Rattle.apei_hest.specs.declared.error.HestError.TheVariants.{DuplicateId, TooMany}
 use Rattle.apei_hest.specs.declared.source.Ghes.{Ghes}
@@ -22,9 +23,9 @@ pub new_id : (before : List Source) (ghes : Ghes) → source_refusal before (sou
 new_id before ghes none = (none_of (has_id ghes.id before) (DuplicateId ghes.id) _ none).0
 
 -- an accepted source that is enabled is not refused as such
-pub not_refused : (before : List Source) (ghes : Ghes) → source_refusal before (sources.Ghes ghes) ≡ None → ghes.enabled ≡ true → enabled_refusal (length (enabled before)) ghes ≡ None
+pub not_refused : (before : List Source) (ghes : Ghes) → source_refusal before (sources.Ghes ghes) ≡ None → ghes.enabled ≡ true → first_of (enabled_rows (length (enabled before)) ghes) ≡ None
 not_refused before ghes none on =
-    sym (ap (λ b. cond b (enabled_refusal (length (enabled before)) ghes) None) on) ∙ (none_of (has_id ghes.id before) (DuplicateId ghes.id) _ none).1
+    sym (ap (λ b. first_of (cond b (enabled_rows (length (enabled before)) ghes) [])) on) ∙ (none_of (has_id ghes.id before) (DuplicateId ghes.id) _ none).1
 
 -- before an accepted source that is enabled there are fewer than 64
 pub few_enabled : (before : List Source) (ghes : Ghes) → source_refusal before (sources.Ghes ghes) ≡ None → ghes.enabled ≡ true → length (enabled before) < 64

@@ -1,18 +1,18 @@
 -- The sources of an accepted table: ids of their own, few enabled ones, and each of these sound.
-use Rattle.std.proofs.Common.{◌≡◌, ◌≤◌, ℕ, ◌+◌, ◌==◌, ◌||◌, nat_eq, nat_lt, nat_le, Bool, true, false, cond, List, [], ◌∷◌, ◌++◌, map, length, refl, sym, ap, subst, ◌∙◌, arith, append_assoc, append-nil, Option, Some, None, Ok}
+use Rattle.std.proofs.Common.{◌≡◌, ◌≤◌, ℕ, ◌+◌, ◌==◌, ◌||◌, nat_eq, nat_lt, nat_le, Bool, true, false, cond, List, [], ◌∷◌, ◌++◌, map, length, refl, sym, ap, subst, ◌∙◌, arith, append_assoc, append-nil, Option, Some, None, is_some, Ok}
 use Rattle.std.specs.Cmp.{IsEquivalence}
 use Rattle.std.specs.List.{list_any, IsDistinct, AllByRecursion}
-use Rattle.std.specs.Option.{option_or, IfSome}
+use Rattle.std.specs.Option.{IfSome}
 use Rattle.std.proofs.lemmas.Bool.{eqb-true, eq-eqb}
 use Rattle.std.proofs.lemmas.Bool.Decides.{nat_tests}
 use Rattle.std.proofs.lemmas.List.{map-append}
 use Rattle.std.proofs.lemmas.Map.Keys.{IsDistinct-push}
+use Rattle.apei_base.specs.Refusal.{first_of}
 use Rattle.apei_base.specs.Region.{gas_refusal}
 use Rattle.apei_base.specs.declared.gas.GasError.{GasError}
-use Rattle.apei_hest.specs.Refusal.{generic, enabled, register_refusal, ack_refusal, enabled_refusal, source_refusal, AreAccepted}
+use Rattle.apei_hest.specs.Refusal.{generic, enabled, ack_refusal, enabled_rows, source_refusal, AreAccepted}
 use Rattle.apei_hest.specs.Hest.{Judges}
 use Rattle.apei_hest.specs.Sound.{ids_of, IsSound}
-use Rattle.apei_hest.specs.declared.error.HestError.{HestError}
 use Rattle.apei_hest.specs.declared.error.HestError.TheVariants.{BlockLength, TooMany}
 use Rattle.apei_hest.specs.declared.source.Ack2.{Ack2}
 use Rattle.apei_hest.specs.declared.source.Ghes.{Ghes}
@@ -89,27 +89,23 @@ few_from before (source ∷ found) all few =
 pub accepted_few : (found : List Source) → AreAccepted [] found → length (enabled found) ≤ 64
 accepted_few found all = few_from [] found all (omega arith)
 
--- none of two refusals
-both_none : (first second : Option HestError) → option_or first second ≡ None → (first ≡ None) × (second ≡ None)
-both_none None second e = (refl, e)
-both_none (Some error) second e = absurd (cc e)
+-- a register with no reason is not refused
+good_register : (why : Option GasError) → is_some why ≡ false → why ≡ None
+good_register None e = refl
+good_register (Some why) e = absurd (cc e)
 
-good_register : (id : ℕ) (why : Option GasError) → register_refusal id why ≡ None → why ≡ None
-good_register id None e = refl
-good_register id (Some why) e = absurd (cc e)
-
-good_ack : (id : ℕ) (ack : Option Ack2) → ack_refusal id ack ≡ None → IfSome ack (λ a. gas_refusal a.register ≡ None)
-good_ack id None e = tt
-good_ack id (Some ack) e = good_register id (gas_refusal ack.register) e
+good_ack : (ack : Option Ack2) → ack_refusal ack ≡ None → IfSome ack (λ a. gas_refusal a.register ≡ None)
+good_ack None e = tt
+good_ack (Some ack) e = e
 
 -- an enabled source that is not refused is sound
-sound_of : (before : ℕ) (ghes : Ghes) → enabled_refusal before ghes ≡ None → IsSound ghes
+sound_of : (before : ℕ) (ghes : Ghes) → first_of (enabled_rows before ghes) ≡ None → IsSound ghes
 sound_of before ghes e =
-    let status = both_none (register_refusal ghes.id (gas_refusal ghes.status)) _ (none_of (nat_le 64 before) TooMany _ e).1 in
-    let ack = both_none (ack_refusal ghes.id ghes.ack) _ status.1 in
+    let status = none_of (is_some (gas_refusal ghes.status)) _ _ (none_of (nat_le 64 before) TooMany _ e).1 in
+    let ack = none_of (is_some (ack_refusal ghes.ack)) _ _ status.1 in
     record {
-      status = good_register ghes.id (gas_refusal ghes.status) status.0;
-      ack = good_ack ghes.id ghes.ack ack.0;
+      status = good_register (gas_refusal ghes.status) status.0;
+      ack = good_ack ghes.ack (good_register (ack_refusal ghes.ack) ack.0);
       room = above ghes.block_length 20 (none_of (nat_lt ghes.block_length 20) (BlockLength ghes.id) None ack.1).0;
     }
 

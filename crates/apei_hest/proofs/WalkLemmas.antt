@@ -1,7 +1,6 @@
 -- Structures that are walked over, one more at a time.
-use Rattle.std.proofs.Common.{◌≡◌, ◌≤◌, ◌<◌, ℕ, ◌+◌, ◌-◌, List, [], ◌∷◌, ◌++◌, length, take, drop, refl, sym, ap, subst, ◌∙◌, arith, append_assoc, append-nil, Some, None, Result, Ok, Err, unwrap_or}
+use Rattle.std.proofs.Common.{◌≡◌, ◌≤◌, ◌<◌, ℕ, ◌+◌, ◌-◌, List, [], ◌∷◌, ◌++◌, length, take, drop, refl, sym, ap, ◌∙◌, arith, append_assoc, append-nil, Some, None, unwrap_or}
 use Rattle.std.specs.Option.{option_or}
-use Rattle.std.specs.Result.{IsErrAnd}
 use Rattle.std.proofs.lemmas.List.{length-append, length-drop, length-take-le, length_push}
 use Rattle.std.proofs.lemmas.List.Concat.{flat_map-append}
 use Rattle.apei_base.specs.Cut.{joined}
@@ -9,10 +8,9 @@ use Rattle.apei_base.proofs.CutLemmas.{cuts_more, cuts_length}
 use Rattle.apei_hest.specs.Structure.{IsStructure, structure_length, structure_at, structure_refusal}
 use Rattle.apei_hest.specs.Source.{source_of, sources_from}
 use Rattle.apei_hest.specs.Refusal.{source_refusal, AreAccepted}
-use Rattle.apei_hest.specs.Hest.{refusal_at, HasCause}
-use Rattle.apei_hest.specs.Admitted.{IsWalked, StopsWith, Finds}
+use Rattle.apei_hest.specs.Hest.{refusal_at}
+use Rattle.apei_hest.specs.Admitted.{IsWalked, StopsWith}
 use Rattle.apei_hest.specs.declared.error.HestError.{HestError}
-use Rattle.apei_hest.specs.declared.error.HestError.TheVariants.{Table, Truncated, SourceType, CountMismatch, DuplicateId, Register, BlockLength, TooMany, OutOfMemory}
 use Rattle.apei_hest.specs.declared.source.Source.{Source}
 use Rattle.apei_hest.proofs.StructureLemmas.{structure_at_least, front_is_structure}
 
@@ -55,30 +53,6 @@ walked_more bytes structures rest found n long within here w =
       few = omega (arith, w.few);
     }
 
--- a refusal that has a cause
-pub caused : (Cause : HestError → Type 0) (error : HestError) → Cause error → HasCause Cause error
-caused Cause OutOfMemory here = tt
-caused Cause (Table why) here = here
-caused Cause (Truncated at) here = here
-caused Cause (SourceType at kind) here = here
-caused Cause (CountMismatch said found) here = here
-caused Cause (DuplicateId id) here = here
-caused Cause (Register id why) here = here
-caused Cause (BlockLength id) here = here
-caused Cause TooMany here = here
-
--- what one cause gives, another one does that follows from it
-pub recaused : (First Second : HestError → Type 0) → ((error : HestError) → First error → Second error) → (error : HestError) → HasCause First error → HasCause Second error
-recaused First Second more OutOfMemory here = tt
-recaused First Second more (Table why) here = more (Table why) here
-recaused First Second more (Truncated at) here = more (Truncated at) here
-recaused First Second more (SourceType at kind) here = more (SourceType at kind) here
-recaused First Second more (CountMismatch said found) here = more (CountMismatch said found) here
-recaused First Second more (DuplicateId id) here = more (DuplicateId id) here
-recaused First Second more (Register id why) here = more (Register id why) here
-recaused First Second more (BlockLength id) here = more (BlockLength id) here
-recaused First Second more TooMany here = more TooMany here
-
 -- no whole structure begins the rest
 pub refused_by_structure : (before : List Source) (at : ℕ) (rest : List ℕ) (error : HestError) → structure_refusal at rest ≡ Some error → refusal_at before at rest ≡ Some error
 refused_by_structure before at rest error e = ap (λ o. option_or o (source_refusal before (source_of (structure_at rest) at))) e
@@ -106,8 +80,3 @@ stops bytes structures rest before error counted w left refused = record {
   left = left;
   refused = ap (λ at. refusal_at before at rest) (sym (walked_offset bytes structures rest before counted w)) ∙ refused;
 }
-
--- a walk that hands on a refusal
-pub finds_refused : (bytes : List ℕ) (result : Result (List Source) HestError) (error : HestError) → IsErrAnd result (λ e. e ≡ error) → HasCause (StopsWith bytes) error → Finds bytes result
-finds_refused bytes (Ok found) error same here = absurd same
-finds_refused bytes (Err e) error same here = subst (HasCause (StopsWith bytes)) (sym same) here

@@ -1,10 +1,10 @@
 -- Sources that were read so far, and one more.
-use Rattle.std.specs.Prelude.{◌≡◌, ◌<◌, ◌≤◌, ℕ, ◌+◌, List, [], ◌∷◌, ◌++◌, length, Some, None, Result, Ok, Err}
+use Rattle.std.specs.Prelude.{◌≡◌, ◌<◌, ◌≤◌, ℕ, ◌+◌, List, [], length, Some}
 use Rattle.std.specs.Ordering.{nat_cmp}
 use Rattle.std.specs.BTreeSet.{BTreeSet, contains}
 use Rattle.apei_base.specs.Cut.{joined, CutsInto}
-use Rattle.apei_hest.specs.Hest.{refusal_at, HasCause}
-use Rattle.apei_hest.specs.Refusal.{enabled, has_id, source_refusal, AreAccepted}
+use Rattle.apei_hest.specs.Hest.{refusal_at}
+use Rattle.apei_hest.specs.Refusal.{enabled, has_id, AreAccepted}
 use Rattle.apei_hest.specs.Source.{sources_from}
 use Rattle.apei_hest.specs.Structure.{IsStructure}
 use Rattle.apei_hest.specs.declared.error.HestError.{HestError}
@@ -14,11 +14,6 @@ use Rattle.apei_hest.specs.declared.source.Source.{Source}
 pub record Knows (ids : BTreeSet ℕ) (count : ℕ) (found : List Source) : Type 0 where
   pub ids_of : (id : ℕ) → contains nat_cmp ids id ≡ has_id id found
   pub count_of : count ≡ length (enabled found)
-
--- what one source more answers behind these: it is the last one now, or it is refused
-abbrev pub Admits : List Source → Source → Result (List Source) HestError → Type 0
-Admits before source (Ok after) = (source_refusal before source ≡ None) × (after ≡ before ++ source ∷ [])
-Admits before source (Err error) = HasCause (λ cause. source_refusal before source ≡ Some cause) error
 
 -- The bytes from offset 40 of a table on are structures with these sources, none of which is refused, and then a rest.
 pub record IsWalked (bytes : List ℕ) (structures : List (List ℕ)) (rest : List ℕ) (found : List Source) : Type 0 where
@@ -36,7 +31,6 @@ pub record StopsWith (bytes : List ℕ) (error : HestError) : Type 0 where
   pub left : 0 < length rest
   pub refused : refusal_at before (40 + length (joined structures)) rest ≡ Some error
 
--- what a walk over the bytes answers: the sources of all of them, or the first refusal
-abbrev pub Finds : List ℕ → Result (List Source) HestError → Type 0
-Finds bytes (Ok found) = (structures : List (List ℕ)) × IsWalked bytes structures [] found
-Finds bytes (Err error) = HasCause (StopsWith bytes) error
+-- The bytes are structures with these sources, none of which is refused, and no rest.
+abbrev pub IsWalkedWhole : List ℕ → List Source → Type 0
+IsWalkedWhole bytes found = (structures : List (List ℕ)) × IsWalked bytes structures [] found

@@ -1,15 +1,14 @@
 -- What a HEST says, and why another one is refused (ACPI 6.5, 18.3.2).
 use Rattle.std.specs.Prelude.{◌≡◌, ◌≤◌, ℕ, ◌+◌, ◌==◌, nat_lt, if◌then◌else◌, List, [], length, drop, codes, Option, Some, None, Result, Ok, Err}
-use Rattle.std.specs.Option.{option_or}
+use Rattle.std.specs.Option.{option_or, option_map}
 use Rattle.apei_base.specs.Cut.{joined, CutsInto}
 use Rattle.apei_base.specs.Number.{number_at}
 use Rattle.apei_base.specs.Table.{IsTable, sdt_refusal}
-use Rattle.apei_base.specs.declared.sdt.SdtError.{SdtError}
 use Rattle.apei_hest.specs.Refusal.{source_refusal, AreAccepted}
 use Rattle.apei_hest.specs.Source.{source_of, sources_from}
 use Rattle.apei_hest.specs.Structure.{IsStructure, structure_at, structure_refusal}
 use Rattle.apei_hest.specs.declared.error.HestError.{HestError}
-use Rattle.apei_hest.specs.declared.error.HestError.TheVariants.{Table, Truncated, SourceType, CountMismatch, DuplicateId, Register, BlockLength, TooMany, OutOfMemory}
+use Rattle.apei_hest.specs.declared.error.HestError.TheVariants.{Table, Truncated, CountMismatch}
 use Rattle.apei_hest.specs.declared.source.Source.{Source}
 
 -- The bytes are a HEST with these sources: they are a table, whose structures stand one behind another from offset 40 up
@@ -51,15 +50,10 @@ Walks said bytes answer =
     × AreAccepted [] (sources_from 40 structures)
     × (answer_at said (sources_from 40 structures) (40 + length (joined structures)) rest ≡ Some answer)
 
--- the refusal for bytes that are no table
-abbrev pub no_table : Option SdtError → Option HestError
-no_table None = None
-no_table (Some why) = Some (Table why)
-
 -- why no structure of the bytes is looked at: they are no table, or end within the count at offset 36 (own choice)
 abbrev pub front_refusal : List ℕ → Option HestError
 front_refusal bytes =
-    option_or (no_table (sdt_refusal (codes "HEST") bytes)) (if nat_lt (length bytes) 40 then Some (Truncated 36) else None)
+    option_or (option_map Table (sdt_refusal (codes "HEST") bytes)) (if nat_lt (length bytes) 40 then Some (Truncated 36) else None)
 
 -- the refusal of the front, where it has one, and else what the structures say
 abbrev pub JudgedBy : Option HestError → List ℕ → Result (List Source) HestError → Type 0
@@ -70,19 +64,6 @@ JudgedBy None bytes answer = Walks (number_at 36 4 bytes) (drop 40 bytes) answer
 abbrev pub Judges : List ℕ → Result (List Source) HestError → Type 0
 Judges bytes answer = JudgedBy (front_refusal bytes) bytes answer
 
--- a refusal has this cause, and want of memory has none
-abbrev pub HasCause : (HestError → Type 0) → HestError → Type 0
-HasCause Cause OutOfMemory = Unit {0}
-HasCause Cause (Table why) = Cause (Table why)
-HasCause Cause (Truncated at) = Cause (Truncated at)
-HasCause Cause (SourceType at kind) = Cause (SourceType at kind)
-HasCause Cause (CountMismatch said found) = Cause (CountMismatch said found)
-HasCause Cause (DuplicateId id) = Cause (DuplicateId id)
-HasCause Cause (Register id why) = Cause (Register id why)
-HasCause Cause (BlockLength id) = Cause (BlockLength id)
-HasCause Cause TooMany = Cause TooMany
-
--- what reading a HEST answers: what the bytes say, unless memory runs out
-abbrev pub Reads : List ℕ → Result (List Source) HestError → Type 0
-Reads bytes (Ok found) = Judges bytes (Ok found)
-Reads bytes (Err error) = HasCause (λ cause. Judges bytes (Err cause)) error
+-- there is something that the bytes say
+abbrev pub IsJudged : List ℕ → Type 0
+IsJudged bytes = (answer : Result (List Source) HestError) × Judges bytes answer

@@ -1,5 +1,5 @@
 -- The fields of error source structures, each at its offset (ACPI 6.5, 18.3.2).
-use Rattle.std.specs.Prelude.{ℕ, not, ◌+◌, ◌==◌, if◌then◌else◌, List, [], ◌∷◌, length, drop, slice_index, Option, Some, None}
+use Rattle.std.specs.Prelude.{ℕ, not, ◌+◌, ◌==◌, min, if◌then◌else◌, List, [], ◌∷◌, length, drop, slice_index, Option, Some, None}
 use Rattle.apei_base.specs.Number.{number_at}
 use Rattle.apei_base.specs.Region.{gas_at}
 use Rattle.apei_hest.specs.Structure.{type_of}
@@ -61,3 +61,7 @@ source_of bytes at =
 abbrev pub sources_from : ℕ → List (List ℕ) → List Source
 sources_from at [] = []
 sources_from at (structure ∷ structures) = source_of structure at ∷ sources_from (at + length structure) structures
+
+-- the receiver's limit of a source, in bytes: the length of its blocks, and at most 65,536 (own choice)
+abbrev pub limit_of : Ghes → ℕ
+limit_of ghes = min ghes.block_length 65536

@@ -1,6 +1,7 @@
 -- The error source structures of a HEST: how long each is, by its type (ACPI 6.5, 18.3.2).
-use Rattle.std.specs.Prelude.{◌≡◌, ℕ, ◌+◌, ◌*◌, ◌==◌, nat_lt, if◌then◌else◌, List, length, take, slice_index, Option, Some, None, unwrap_or}
+use Rattle.std.specs.Prelude.{◌≡◌, ℕ, ◌+◌, ◌*◌, ◌==◌, nat_lt, if◌then◌else◌, List, [], ◌∷◌, length, take, slice_index, Option, Some, None, is_none, unwrap_or}
 use Rattle.apei_base.specs.Number.{number_at}
+use Rattle.apei_base.specs.Refusal.{first_of}
 use Rattle.apei_hest.specs.declared.error.HestError.{HestError}
 use Rattle.apei_hest.specs.declared.error.HestError.TheVariants.{Truncated, SourceType}
 
@@ -36,13 +37,10 @@ IsStructure bytes = structure_length bytes ≡ Some (length bytes)
 abbrev pub structure_at : List ℕ → List ℕ
 structure_at bytes = take (unwrap_or (structure_length bytes) 0) bytes
 
--- why bytes at this offset of a table do not begin with a whole structure, by the length that it would have
-abbrev pub length_refusal : ℕ → List ℕ → Option ℕ → Option HestError
-length_refusal at bytes None = Some (SourceType at (type_of bytes))
-length_refusal at bytes (Some n) = if nat_lt (length bytes) n then Some (Truncated at) else None
-
--- why bytes at this offset of a table do not begin with a whole structure: without a type and an id it is cut off,
--- then its type is judged, and then its length (own choice)
+-- why bytes at this offset of a table do not begin with a whole structure, the first reason: they end before its type and
+-- its id, its type is not read, or they end before its length (own choice)
 abbrev pub structure_refusal : ℕ → List ℕ → Option HestError
-structure_refusal at bytes =
-    if nat_lt (length bytes) 4 then Some (Truncated at) else length_refusal at bytes (structure_length bytes)
+structure_refusal at bytes = first_of (
+    (nat_lt (length bytes) 4, Truncated at) ∷
+    (is_none (structure_length bytes), SourceType at (type_of bytes)) ∷
+    (nat_lt (length bytes) (unwrap_or (structure_length bytes) 0), Truncated at) ∷ [])

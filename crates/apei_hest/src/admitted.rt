@@ -1,12 +1,11 @@
 //! The sources so far, and what the next one is judged by.
-ghost use Rattle.std.specs.Prelude.{◌≡◌, [], ◌∷◌, ◌++◌, None, IfOk, IfErr};
-ghost use Rattle.apei_hest.specs.Refusal.{register_refusal, ack_refusal, enabled_refusal, source_refusal};
-ghost use Rattle.apei_base.specs.Region.{gas_refusal};
-ghost use Rattle.apei_hest.specs.Admitted.{Admits};
+ghost use Rattle.std.specs.Prelude.{◌≡◌, ◌≢◌, [], ◌∷◌, ◌++◌, Some, None, IfOk, OnOk, IfErr};
+ghost use Rattle.apei_base.specs.Refusal.{first_of};
+ghost use Rattle.apei_hest.specs.Refusal.{ack_refusal, enabled_rows, source_refusal};
 ghost use Rattle.apei_hest.specs.declared.error.HestError.TheVariants.{OutOfMemory};
 
 use crate::{Ack2, Ghes, HestError, Source};
-use apei_base::Gas;
+use apei_base::GasError;
 use std::alloc::Global;
 use std::collections::BTreeSet;
 use std::marker::Model;
@@ -37,41 +36,32 @@ const ENABLED_LIMIT: usize = 64;
 /// How many bytes the header of a block has.
 const BLOCK_HEADER: u32 = 20;
 
-// The refusal for a register of a source.
-fn register_refusal(id: u16, register: &Gas) -> Option<HestError>
-    ensures { result ≡ register_refusal id (gas_refusal register.now) }
-{
-    match register.check() {
-        Ok(_) => None,
-        Err(why) => Some(HestError::Register { id, why }),
-    }
-}
-
-// The refusal for the read ack register of a source, where it has one.
-fn ack_refusal(id: u16, ack: &Option<Ack2>) -> Option<HestError>
-    ensures { result ≡ ack_refusal id ack.now }
+// Why the read ack register of a source is refused, where it has one.
+fn ack_refusal(ack: &Option<Ack2>) -> Option<GasError>
+    ensures { result ≡ ack_refusal ack.now }
 {
     match ack {
-        Some(ack) => register_refusal(id, &ack.register),
+        Some(ack) => ack.register.check().err(),
         None => None,
     }
 }
 
 // Why an enabled source is refused behind so many enabled ones.
 fn enabled_refusal(before: usize, ghes: &Ghes) -> Option<HestError>
-    ensures { result ≡ enabled_refusal before ghes.now }
+    ensures { result ≡ first_of (enabled_rows before ghes.now) }
 {
+    let id = ghes.id;
     if before >= ENABLED_LIMIT {
         return Some(HestError::TooMany);
     }
-    if let Some(error) = register_refusal(ghes.id, &ghes.status) {
-        return Some(error);
+    if let Err(why) = ghes.status.check() {
+        return Some(HestError::Register { id, why });
     }
-    if let Some(error) = ack_refusal(ghes.id, &ghes.ack) {
-        return Some(error);
+    if let Some(why) = ack_refusal(&ghes.ack) {
+        return Some(HestError::Register { id, why });
     }
     if ghes.block_length < BLOCK_HEADER {
-        return Some(HestError::BlockLength { id: ghes.id });
+        return Some(HestError::BlockLength { id });
     }
     None
 }
@@ -124,7 +114,10 @@ impl Admitted {
 
     /// One source more, if it is not refused behind these.
     pub fn admit(self, source: Source) -> Result<Admitted, HestError>
-        ensures { Admits self source result }
+        ensures found { IfOk result (λ after. after ≡ self ++ source ∷ []) }
+        ensures accepted { OnOk result (source_refusal self source ≡ None) }
+        ensures refused { IfErr result
+            (λ error. error ≢ OutOfMemory → source_refusal self source ≡ Some error) }
     {
         match self.refusal(&source) {
             Some(error) => Err(error),

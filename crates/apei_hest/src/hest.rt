@@ -1,5 +1,6 @@
-ghost use Rattle.std.specs.Prelude.{◌≡◌, ◌≤◌, ◌<◌, ◌^◌, length, drop};
-ghost use Rattle.apei_hest.specs.Admitted.{Finds};
+ghost use Rattle.std.specs.Prelude.{◌≡◌, ◌≢◌, ◌≤◌, ◌<◌, ◌^◌, [], length, drop, Ok, Err, IfOk, IfErr};
+ghost use Rattle.apei_hest.specs.Admitted.{IsWalkedWhole, StopsWith};
+ghost use Rattle.apei_hest.specs.declared.error.HestError.TheVariants.{OutOfMemory};
 
 use crate::admitted::Admitted;
 use crate::structure::whole_length;
@@ -10,6 +11,8 @@ use std::marker::Model;
 
 /// The error sources of a HEST, the hardware error source table. A contract sees the list of them.
 ///
+/// None of them is refused behind those before it: no two generic sources have one id, at most 64 are enabled, and each
+/// of these has registers that name regions and a block with room for a header.
 /// Source: ACPI 6.5, 18.3.2.
 #[derive(Debug, Drop)]
 pub struct Hest {
@@ -17,10 +20,13 @@ pub struct Hest {
 }
 
 impl Model for Hest {
-    ghost use Rattle.std.specs.Prelude.{List};
+    ghost use Rattle.std.specs.Prelude.{List, []};
+    ghost use Rattle.apei_hest.specs.Refusal.{AreAccepted};
     ghost use Rattle.apei_hest.specs.declared.source.Source.{Source};
 
     ghost Value = { List Source };
+
+    ghost invariant = { λ h. AreAccepted [] h.sources.items };
 
     ghost view = { λ h. h.sources.items };
 }
@@ -34,7 +40,9 @@ const FIRST_STRUCTURE: usize = 40;
 fn walk(alloc: Global, bytes: &[u8]) -> Result<Admitted, HestError>
     requires counted { 40 ≤ length bytes.now }
     requires small { length bytes.now < 2 ^ 32 }
-    ensures { Finds (drop 40 bytes.now) result }
+    ensures found { IfOk result (λ found. IsWalkedWhole (drop 40 bytes.now) found) }
+    ensures refused { IfErr result
+        (λ error. error ≢ OutOfMemory → StopsWith (drop 40 bytes.now) error) }
 {
     let mut admitted = Admitted::new(alloc);
     let (_front, mut rest) = bytes.split_at(FIRST_STRUCTURE);
@@ -48,7 +56,8 @@ fn walk(alloc: Global, bytes: &[u8]) -> Result<Admitted, HestError>
 }
 
 impl Hest {
-    ghost use Rattle.apei_hest.specs.Hest.{Reads};
+    ghost use Rattle.apei_hest.specs.Hest.{Judges};
+    ghost use Rattle.apei_hest.specs.Refusal.{AreAccepted};
 
     /// Reads the error sources of a HEST, in table order.
     ///
@@ -57,7 +66,10 @@ impl Hest {
     /// is tested last. Registers and block lengths of sources that are not enabled are not judged.
     /// Source: ACPI 6.5, 18.3.2. Which refusal is first: Own choice.
     pub fn read(alloc: Global, bytes: &[u8]) -> Result<Hest, HestError>
-        ensures { Reads bytes.now result }
+        ensures found { IfOk result (λ hest. Judges bytes.now (Ok hest)) }
+        ensures accepted { IfOk result (λ hest. AreAccepted [] hest) }
+        ensures refused { IfErr result
+            (λ error. error ≢ OutOfMemory → Judges bytes.now (Err error)) }
     {
         Sdt::read(bytes, b"HEST")?;
         if bytes.len() < FIRST_STRUCTURE {
@@ -74,7 +86,8 @@ impl Hest {
 
     /// The error sources, in table order.
     pub fn sources(&self) -> &[Source]
-        ensures { result.now ≡ self.now }
+        ensures list { result.now ≡ self.now }
+        ensures accepted { AreAccepted [] self.now }
     {
         &self.sources
     }

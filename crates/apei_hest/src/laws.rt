@@ -1,10 +1,10 @@
 //! Laws over the definitions, each the contract of a function that does nothing.
-ghost use Rattle.std.specs.Prelude.{◌≡◌, ◌≤◌, ◌↔◌, ℕ, nat_eq, length, List, Result, Ok};
+ghost use Rattle.std.specs.Prelude.{◌≡◌, ◌≤◌, ◌↔◌, ℕ, nat_eq, length, List, [], Result, Ok};
 ghost use Rattle.std.specs.List.{AllByRecursion, IsDistinct};
 ghost use Rattle.apei_hest.specs.declared.source.Source.{Source};
 ghost use Rattle.apei_hest.specs.declared.error.HestError.{HestError};
-ghost use Rattle.apei_hest.specs.Hest.{IsHest, Judges};
-ghost use Rattle.apei_hest.specs.Refusal.{enabled};
+ghost use Rattle.apei_hest.specs.Hest.{IsHest, Judges, IsJudged};
+ghost use Rattle.apei_hest.specs.Refusal.{enabled, AreAccepted};
 ghost use Rattle.apei_hest.specs.Sound.{ids_of, IsSound};
 
 /// A table is accepted exactly where it is its header, its count and structures one behind another, none of which is
@@ -19,8 +19,21 @@ pub fn a_table_is_read_in_one_way()
         → first ≡ second }
 {}
 
-/// The sources of an accepted table may be told apart and read: no two generic sources have one id, at most 64 are
-/// enabled, and each of these has registers that name regions and a block with room for a header.
+/// Each list of bytes is judged: it is accepted with some sources, or refused for some reason.
+pub fn each_list_of_bytes_is_judged()
+    ensures { (bytes : List ℕ) → IsJudged bytes }
+{}
+
+/// Sources none of which is refused behind those before it may be told apart and read: no two generic sources have one
+/// id, at most 64 are enabled, and each of these has registers that name regions and a block with room for a header.
+pub fn accepted_sources_are_sound()
+    ensures distinct { (found : List Source) → AreAccepted [] found → IsDistinct nat_eq (ids_of found) }
+    ensures few { (found : List Source) → AreAccepted [] found → length (enabled found) ≤ 64 }
+    ensures sound { (found : List Source) → AreAccepted [] found
+        → AllByRecursion IsSound (enabled found) }
+{}
+
+/// So are the sources of an accepted table.
 pub fn an_accepted_table_has_sound_sources()
     ensures distinct { (bytes : List ℕ) (found : List Source) → Judges bytes (Ok found) → IsDistinct nat_eq (ids_of found) }
     ensures few { (bytes : List ℕ) (found : List Source) → Judges bytes (Ok found) → length (enabled found) ≤ 64 }

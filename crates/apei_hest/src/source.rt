@@ -1,5 +1,5 @@
-ghost use Rattle.std.specs.Prelude.{◌≡◌, ◌<◌, ◌^◌, length};
-ghost use Rattle.apei_hest.specs.Source.{source_of};
+ghost use Rattle.std.specs.Prelude.{◌≡◌, ◌<◌, ◌≤◌, ◌^◌, length};
+ghost use Rattle.apei_hest.specs.Source.{source_of, limit_of};
 ghost use Rattle.apei_hest.specs.Structure.{IsStructure};
 
 use crate::fields::{ack_of, ghes_of};
@@ -93,6 +93,18 @@ pub struct Ack2 {
     pub preserve: u64,
     /// The bits that are set.
     pub write: u64,
+}
+
+impl Ghes {
+    /// The receiver's limit, in bytes: a block is at most so long.
+    ///
+    /// Source: Own choice.
+    pub fn limit(&self) -> u32
+        ensures value { result ≡ limit_of self.now }
+        ensures most { result ≤ 65536 }
+    {
+        self.block_length.min(65_536)
+    }
 }
 
 impl Source {
