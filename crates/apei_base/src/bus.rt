@@ -47,7 +47,8 @@ pub trait Bus {
         ensures count { CountsFaults result (faults self.old) (faults self.new) };
 
     /// Where the cells are told, a read answers their value and a copy their bytes.
-    ghost answers: { (before after : State) (access : Access) → step before access after → Answers (cells before) access };
+    ghost answers: { (before after : State) (access : Access) → step before access after
+        → Answers (cells before) access };
 
     /// Where the cells are told, one that is not mapped stays so, whatever is written.
     ghost unmapped: { (before after : State) (access : Access) → step before access after

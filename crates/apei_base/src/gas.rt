@@ -138,7 +138,8 @@ impl Gas {
 
         // What a region is, whatever the rule for its width: the field lies in one access, which an I/O port
         // can make, and whose bytes all have an address.
-        ensures within { IfOk result (λ region. self.now.bit_offset + self.now.bit_width ≤ region.width) }
+        ensures within { IfOk result
+            (λ region. self.now.bit_offset + self.now.bit_width ≤ region.width) }
         ensures no_wide_port { IfOk result (λ region. region.space ≡ Port → region.width ≤ 32) }
         ensures in_space { IfOk result (λ region. region.address + region.width / 8 ≤ 2 ^ 64) }
     {

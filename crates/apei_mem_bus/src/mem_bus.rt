@@ -24,7 +24,8 @@ pub struct MemBus {
 
 // Maps the cells of a run, all 0.
 fn map_run(bank: &mut BTreeMap<u64, u8>, first: u64, count: u32) -> Result<(), AllocError>
-    ensures { OnOk result ((address : ℕ) → get nat_cmp bank.new address ≡ (if is_in_run first count address then Some 0 else get nat_cmp bank.old address)) }
+    ensures { OnOk result ((address : ℕ) → get nat_cmp bank.new address
+        ≡ (if is_in_run first count address then Some 0 else get nat_cmp bank.old address)) }
 {
     for step in 0..count {
         if let Ok(address) = u64::try_from(u128::from(first) + u128::from(step)) {
@@ -36,7 +37,8 @@ fn map_run(bank: &mut BTreeMap<u64, u8>, first: u64, count: u32) -> Result<(), A
 
 // Writes a byte to a cell, if it is mapped.
 fn put_byte(bank: &mut BTreeMap<u64, u8>, at: u128, byte: u8)
-    ensures { (address : ℕ) → get nat_cmp bank.new address ≡ with_bytes (get nat_cmp bank.old) at (byte ∷ []) address }
+    ensures { (address : ℕ)
+        → get nat_cmp bank.new address ≡ with_bytes (get nat_cmp bank.old) at (byte ∷ []) address }
 {
     if let Ok(address) = u64::try_from(at) {
         if let Some(cell) = bank.get_mut(&address) {
@@ -47,7 +49,8 @@ fn put_byte(bank: &mut BTreeMap<u64, u8>, at: u128, byte: u8)
 
 // Writes bytes to the cells from an address on, where they are mapped.
 fn put_bytes(bank: &mut BTreeMap<u64, u8>, first: u64, bytes: &[u8])
-    ensures { (address : ℕ) → get nat_cmp bank.new address ≡ with_bytes (get nat_cmp bank.old) first bytes.now address }
+    ensures { (address : ℕ)
+        → get nat_cmp bank.new address ≡ with_bytes (get nat_cmp bank.old) first bytes.now address }
 {
     for step in 0..bytes.len() {
         put_byte(bank, u128::from(first) + step as u128, bytes[step]);
@@ -60,7 +63,8 @@ fn mapped_cells(
     space: Space,
     runs: &[(Space, u64, u32)],
 ) -> Result<BTreeMap<u64, u8>, AllocError>
-    ensures { IfOk result (λ bank. (address : ℕ) → get nat_cmp bank address ≡ (if is_in_runs runs.now space address then Some 0 else None)) }
+    ensures { IfOk result (λ bank. (address : ℕ)
+        → get nat_cmp bank address ≡ (if is_in_runs runs.now space address then Some 0 else None)) }
 {
     let mut bank = BTreeMap::new(alloc);
     for (of, first, count) in runs {
@@ -95,7 +99,9 @@ impl MemBus {
 
     // Writes the low bytes of a value to a region.
     fn put_value(&mut self, at: &Region, value: u64)
-        ensures cells { (space : Space) (address : ℕ) → cells_of self.new space address ≡ with_value (cells_of self.old) (reach_of at.now) (value % 2 ^ at.now.width) space address }
+        ensures cells { (space : Space) (address : ℕ) → cells_of self.new space address
+            ≡ with_value (cells_of self.old) (reach_of at.now) (value % 2 ^ at.now.width)
+            space address }
         ensures kept { self.new.attempts ≡ self.old.attempts }
     {
         let all = value.to_le_bytes();
@@ -132,7 +138,8 @@ impl MemBus {
 
     // The bytes of a region, and zeros behind them.
     fn region_bytes(&self, at: &Region) -> [u8; 8]
-        ensures { take (at.now.width / 8) result ≡ bytes_at (cells_of self.now) at.now.space at.now.address (at.now.width / 8) }
+        ensures { take (at.now.width / 8) result
+            ≡ bytes_at (cells_of self.now) at.now.space at.now.address (at.now.width / 8) }
     {
         let mut bytes = [0u8; 8];
         self.fill(

@@ -62,7 +62,9 @@ impl OneSource {
     // A write that clears the standing block.
     fn clears(&self, at: &Region, value: u64) -> bool
         ensures below { OnTrue result (self.now.acknowledged < vec_len self.now.made) }
-        ensures value { result ≡ (same_reach (reach_of at.now) (block_status (⟦<OneSource as Bus>⟧.state self.now).layout) && (value == 0) && is_some (standing (⟦<OneSource as Bus>⟧.state self.now))) }
+        ensures value { result
+            ≡ (same_reach (reach_of at.now) (block_status (⟦<OneSource as Bus>⟧.state self.now).layout)
+            && (value == 0) && is_some (standing (⟦<OneSource as Bus>⟧.state self.now))) }
     {
         at.is_same(&Region::memory(self.area, 32)) && value == 0 && self.standing().is_some()
     }
