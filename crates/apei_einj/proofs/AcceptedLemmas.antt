@@ -8,7 +8,7 @@ use Rattle.apei_base.proofs.CutLemmas.{cuts_length}
 use Rattle.apei_base.proofs.TableLemmas.{refusal_of_table}
 use Rattle.apei_base.specs.Cut.{joined}
 use Rattle.apei_einj.specs.Anchor.{anchor_of}
-use Rattle.apei_einj.specs.Refusal.{lacks, missing_refusal}
+use Rattle.apei_einj.specs.Refusal.{lacks, is_missing, first_missing, missing_refusal}
 use Rattle.apei_einj.specs.Sound.{einj_pieces, IsEinj, HasAnchors}
 use Rattle.apei_einj.specs.Table.{stated_count, has_header_size, einj_entries, einj_refusal, IsRunnable}
 use Rattle.apei_einj.specs.declared.entry.Entry.{Entry}
@@ -49,14 +49,18 @@ not_both_lacking (Some entry) second e = refl
 not_both_lacking None (Some entry) e = refl
 not_both_lacking None None e = elim e [ inl first ↦ absurd (cc first) | inr second ↦ absurd (cc second) ]
 
+also_true : (b : Bool) → b ≡ false → (b && true) ≡ false
+also_true b e = ap (λ c. c && true) e
+
 none_missing : (entries : List Entry) → HasAnchors entries → missing_refusal entries ≡ None
+unfolding first_missing
 none_missing entries has =
-    passes (lacks 1 entries) (Missing 1) _ (not_lacking (anchor_of 1 entries) has.get_trigger)
-    (passes (lacks 2 entries && lacks 8 entries) (Missing 2) _ (not_both_lacking (anchor_of 2 entries) (anchor_of 8 entries) has.set_type)
-    (passes (lacks 3 entries) (Missing 3) _ (not_lacking (anchor_of 3 entries) has.get_type)
-    (passes (lacks 5 entries) (Missing 5) _ (not_lacking (anchor_of 5 entries) has.execute)
-    (passes (lacks 6 entries) (Missing 6) _ (not_lacking (anchor_of 6 entries) has.check_busy)
-    (passes (lacks 7 entries) (Missing 7) _ (not_lacking (anchor_of 7 entries) has.get_status) refl)))))
+    passes (is_missing 1 entries) (Missing 1) _ (also_true (lacks 1 entries) (not_lacking (anchor_of 1 entries) has.get_trigger))
+    (passes (is_missing 2 entries) (Missing 2) _ (not_both_lacking (anchor_of 2 entries) (anchor_of 8 entries) has.set_type)
+    (passes (is_missing 3 entries) (Missing 3) _ (also_true (lacks 3 entries) (not_lacking (anchor_of 3 entries) has.get_type))
+    (passes (is_missing 5 entries) (Missing 5) _ (also_true (lacks 5 entries) (not_lacking (anchor_of 5 entries) has.execute))
+    (passes (is_missing 6 entries) (Missing 6) _ (also_true (lacks 6 entries) (not_lacking (anchor_of 6 entries) has.check_busy))
+    (passes (is_missing 7 entries) (Missing 7) _ (also_true (lacks 7 entries) (not_lacking (anchor_of 7 entries) has.get_status)) refl)))))
 
 -- a table whose entries can be run
 pub accepted_of : (bytes : List ℕ) → IsEinj bytes → AllByRecursion IsRunnable (einj_entries bytes) → HasAnchors (einj_entries bytes) → einj_refusal bytes ≡ None

@@ -1,12 +1,10 @@
 -- Over a bus each of whose accesses has one outcome, each part of an injection has one.
 use Rattle.std.proofs.Common.{◌≡◌, ◌≢◌, ◌<◌, ◌⊎◌, ℕ, zero, suc, arith, Bool, true, false, List, [], ◌∷◌, Option, Some, None, Result, Ok, Err, refl, sym, ap, subst, ◌∙◌, inl, inr}
 use Rattle.std.proofs.lemmas.Bool.{cases_order}
-use Rattle.apei_base.specs.Bus.{Access, bytes_at}
-use Rattle.apei_mem_bus.specs.MemBus.{IsMemStep}
-use Rattle.apei_base.specs.declared.region.Space.TheVariants.{Memory}
+use Rattle.apei_base.specs.Bus.{Access}
 use Rattle.apei_einj.specs.Action.{Instruction, ReadRegister, ReadRegisterValue, WriteRegister, WriteRegisterValue, NoOperation, instruction_of, Puts, Does, Runs, preserves}
 use Rattle.apei_einj.specs.Anchor.{anchor_of}
-use Rattle.apei_einj.specs.Determined.{IsDetermined}
+use Rattle.apei_base.specs.Determined.{IsDetermined}
 use Rattle.apei_einj.specs.Entry.{of_action}
 use Rattle.apei_einj.specs.Injection.{place_refusal, type_refusal, status_refusal, is_busy, busy_limit, WritesRows, SetsType, AreBusy, Waits, Prepares, Executes, Ends, Injects}
 use Rattle.apei_einj.specs.Part.{Part, Then, Gives, Tests, Stores, Takes, TakesAny, Acts}
@@ -280,12 +278,3 @@ module _ {S : Type 0} (step : S → Access → S → Type 0) (is : IsDetermined 
       → one ≢ Err errors.Fault → other ≢ Err errors.Fault → (one ≡ other) × (here ≡ there)
   injects_one request before here there one other injects again fine fine_too =
       sure_injects request before here there one other injects again (unfailed one fine) (unfailed other fine_too)
-
--- the bus in memory
-pub mem_determined : IsDetermined IsMemStep
-mem_determined = record {
-  reads = λ before here there reach n m one other. (one.0 ∙ sym other.0, one.1 ∙ sym other.1);
-  writes = λ before here there reach value one other. λ i space address. (one space address ∙ sym (other space address)) i;
-  copies = λ before here there address bytes others as_many one other.
-      (one.0 ∙ ap (bytes_at before Memory address) as_many ∙ sym other.0, one.1 ∙ sym other.1);
-}

@@ -1,6 +1,6 @@
 -- An accepted table is its header and its entries, and these can be run.
 use Rattle.std.proofs.Common.{◌≡◌, ◌≤◌, ◌⊎◌, inl, inr, ℕ, zero, suc, ◌*◌, ◌/◌, ◌==◌, ◌&&◌, nat_lt, nat_le, Bool, true, false, cond, not, List, [], ◌∷◌, ◌++◌, length, take, drop, codes, refl, sym, ap, ◌∙◌, arith, append_assoc, Option, Some, None, is_none}
-use Rattle.std.specs.Option.{option_or, IsSome}
+use Rattle.std.specs.Option.{option_or, option_map, IsSome}
 use Rattle.std.specs.List.{filter, AllByRecursion}
 use Rattle.std.proofs.lemmas.Bool.{eqb-true}
 use Rattle.std.proofs.lemmas.Bool.Decides.{nat_tests}
@@ -11,12 +11,12 @@ use Rattle.apei_base.specs.Table.{sdt_refusal}
 use Rattle.apei_base.specs.declared.sdt.SdtError.{SdtError}
 use Rattle.apei_einj.specs.Anchor.{anchor_of}
 use Rattle.apei_einj.specs.Entry.{pieces_of, entries_from, is_injection}
-use Rattle.apei_einj.specs.Refusal.{entry_refusal, first_refusal, lacks, missing_refusal}
+use Rattle.apei_einj.specs.Refusal.{entry_refusal, first_refusal, lacks, is_missing, first_missing, missing_refusal}
 use Rattle.apei_einj.specs.Sound.{IsEinj, HasAnchors}
-use Rattle.apei_einj.specs.Table.{stated_count, has_header_size, no_table, header_refusal, count_refusal, einj_entries, einj_refusal, IsRunnable}
+use Rattle.apei_einj.specs.Table.{stated_count, has_header_size, header_refusal, count_refusal, einj_entries, einj_refusal, IsRunnable}
 use Rattle.apei_einj.specs.declared.entry.Entry.{Entry}
 use Rattle.apei_einj.specs.declared.error.EinjError.{EinjError}
-use Rattle.apei_einj.specs.declared.error.EinjError.TheVariants.{HeaderSize, CountMismatch, Missing}
+use Rattle.apei_einj.specs.declared.error.EinjError.TheVariants.{Table, HeaderSize, CountMismatch, Missing}
 
 -- where no refusal comes, its test is false and no later one comes
 not_met : {E : Type 0} (b : Bool) (error : E) (later : Option E) → cond b (Some error) later ≡ None → (b ≡ false) × (later ≡ None)
@@ -33,7 +33,7 @@ neither : (first later : Option EinjError) → option_or first later ≡ None �
 neither None later e = (refl, e)
 neither (Some error) later e = absurd (cc e)
 
-table_accepted : (why : Option SdtError) → no_table why ≡ None → why ≡ None
+table_accepted : (why : Option SdtError) → option_map Table why ≡ None → why ≡ None
 table_accepted None e = refl
 table_accepted (Some why) e = absurd (cc e)
 
@@ -63,7 +63,7 @@ record Accepted (bytes : List ℕ) : Type 0 where
 accepted : (bytes : List ℕ) → einj_refusal bytes ≡ None → Accepted bytes
 unfolding einj_refusal
 accepted bytes e =
-    let table = neither (no_table (sdt_refusal (codes "EINJ") bytes)) _ e in
+    let table = neither (option_map Table (sdt_refusal (codes "EINJ") bytes)) _ e in
     let header = neither (header_refusal bytes) _ table.1 in
     let count = neither (count_refusal bytes) _ header.1 in
     let entries = neither (first_refusal (einj_entries bytes)) _ count.1 in
@@ -137,21 +137,27 @@ has_either (Some entry) second e = inl refl
 has_either None (Some entry) e = inr refl
 has_either None None e = absurd (cc e)
 
-anchors_of : (entries : List Entry) → missing_refusal entries ≡ None → HasAnchors entries
+and_true : (b : Bool) → (b && true) ≡ false → b ≡ false
+and_true true e = e
+and_true false e = refl
+
+-- no needed action is missing
+pub anchors_of : (entries : List Entry) → missing_refusal entries ≡ None → HasAnchors entries
+unfolding first_missing
 anchors_of entries e =
-    let one = not_met (lacks 1 entries) (Missing 1) _ e in
-    let two = not_met (lacks 2 entries && lacks 8 entries) (Missing 2) _ one.1 in
-    let three = not_met (lacks 3 entries) (Missing 3) _ two.1 in
-    let five = not_met (lacks 5 entries) (Missing 5) _ three.1 in
-    let six = not_met (lacks 6 entries) (Missing 6) _ five.1 in
-    let seven = not_met (lacks 7 entries) (Missing 7) _ six.1 in
+    let one = not_met (is_missing 1 entries) (Missing 1) _ e in
+    let two = not_met (is_missing 2 entries) (Missing 2) _ one.1 in
+    let three = not_met (is_missing 3 entries) (Missing 3) _ two.1 in
+    let five = not_met (is_missing 5 entries) (Missing 5) _ three.1 in
+    let six = not_met (is_missing 6 entries) (Missing 6) _ five.1 in
+    let seven = not_met (is_missing 7 entries) (Missing 7) _ six.1 in
     record {
-      get_trigger = has_anchor (anchor_of 1 entries) one.0;
+      get_trigger = has_anchor (anchor_of 1 entries) (and_true (lacks 1 entries) one.0);
       set_type = has_either (anchor_of 2 entries) (anchor_of 8 entries) two.0;
-      get_type = has_anchor (anchor_of 3 entries) three.0;
-      execute = has_anchor (anchor_of 5 entries) five.0;
-      check_busy = has_anchor (anchor_of 6 entries) six.0;
-      get_status = has_anchor (anchor_of 7 entries) seven.0;
+      get_type = has_anchor (anchor_of 3 entries) (and_true (lacks 3 entries) three.0);
+      execute = has_anchor (anchor_of 5 entries) (and_true (lacks 5 entries) five.0);
+      check_busy = has_anchor (anchor_of 6 entries) (and_true (lacks 6 entries) six.0);
+      get_status = has_anchor (anchor_of 7 entries) (and_true (lacks 7 entries) seven.0);
     }
 
 -- the anchors of an accepted table

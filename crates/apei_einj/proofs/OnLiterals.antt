@@ -5,7 +5,7 @@ use Rattle.apei_base.specs.declared.gas.GasError.TheVariants.{Space, PastEnd}
 use Rattle.apei_base.specs.declared.sdt.SdtError.TheVariants.{Short}
 use Rattle.apei_einj.specs.Anchor.{anchor_of}
 use Rattle.apei_einj.specs.Entry.{pieces_of, entries_from}
-use Rattle.apei_einj.specs.Refusal.{first_refusal}
+use Rattle.apei_einj.specs.Refusal.{first_refusal, first_missing}
 use Rattle.apei_einj.specs.Table.{einj_entries, einj_refusal}
 use Rattle.apei_einj.specs.declared.entry.Entry.{Entry}
 use Rattle.apei_einj.specs.declared.error.EinjError.TheVariants.{Table, HeaderSize, CountMismatch, Instruction, Register, Missing}
@@ -29,7 +29,7 @@ length-sample = refl
 
 -- it is accepted
 pub einj_refusal-sample : einj_refusal injection ≡ None
-unfolding einj_refusal einj_entries pieces_of entries_from first_refusal anchor_of
+unfolding einj_refusal einj_entries pieces_of entries_from first_refusal anchor_of first_missing
 einj_refusal-sample = refl
 
 -- it has nine entries
@@ -54,7 +54,7 @@ einj_refusal-size_16 = refl
 
 -- a header size of 12 is accepted
 pub einj_refusal-size_12 : einj_refusal (table 0x95 12 9 nine_entries) ≡ None
-unfolding einj_refusal einj_entries pieces_of entries_from first_refusal anchor_of
+unfolding einj_refusal einj_entries pieces_of entries_from first_refusal anchor_of first_missing
 einj_refusal-size_12 = refl
 
 -- ten entries are stated
@@ -74,12 +74,12 @@ einj_refusal-space_2 = refl
 
 -- action 7 is missing where action 9 stands in its place
 pub einj_refusal-no_status : einj_refusal (table 0x6f 48 9 (entries 4 1 0 9 (above_7e 0x40))) ≡ Some (Missing 7)
-unfolding einj_refusal einj_entries pieces_of entries_from first_refusal anchor_of
+unfolding einj_refusal einj_entries pieces_of entries_from first_refusal anchor_of first_missing
 einj_refusal-no_status = refl
 
 -- and so is action 1
 pub einj_refusal-no_trigger : einj_refusal (table 0x69 48 9 (entries 4 9 0 7 (above_7e 0x40))) ≡ Some (Missing 1)
-unfolding einj_refusal einj_entries pieces_of entries_from first_refusal anchor_of
+unfolding einj_refusal einj_entries pieces_of entries_from first_refusal anchor_of first_missing
 einj_refusal-no_trigger = refl
 
 -- 36 bytes do not fit above the last address but 31
@@ -89,5 +89,5 @@ einj_refusal-past_end = refl
 
 -- 36 bytes that end with the last address are accepted
 pub einj_refusal-at_end : einj_refusal (table 0x5a 48 9 (entries 4 1 0 7 (0xdc ∷ repeat 7 (0xff ∷ [])))) ≡ None
-unfolding einj_refusal einj_entries pieces_of entries_from first_refusal anchor_of
+unfolding einj_refusal einj_entries pieces_of entries_from first_refusal anchor_of first_missing
 einj_refusal-at_end = refl

@@ -41,7 +41,7 @@ gas_refusal_accepted entry is_none below =
     none_first (gas_refusal entry.register) _ (no_reason entry.at (register_reason entry) refusal)
 
 -- among entries that are not refused the first is not
-entry_refusal-head : (entry : Entry) (entries : List Entry) → first_refusal (entry ∷ entries) ≡ None → entry_refusal entry ≡ None
+pub entry_refusal-head : (entry : Entry) (entries : List Entry) → first_refusal (entry ∷ entries) ≡ None → entry_refusal entry ≡ None
 unfolding first_refusal
 entry_refusal-head entry entries is_none = none_first (entry_refusal entry) (first_refusal entries) is_none
 
@@ -50,6 +50,10 @@ first_refusal-tail : (entries : List Entry) → first_refusal entries ≡ None �
 unfolding first_refusal
 first_refusal-tail [] is_none = refl
 first_refusal-tail (entry ∷ entries) is_none = none_second (entry_refusal entry) (first_refusal entries) is_none
+
+pub first_refusal-rest : (entry : Entry) (entries : List Entry) → first_refusal (entry ∷ entries) ≡ None → first_refusal entries ≡ None
+unfolding first_refusal
+first_refusal-rest entry entries is_none = none_second (entry_refusal entry) (first_refusal entries) is_none
 
 -- the entries from an index on begin with the one that stands there
 pub drop-item : (entries : List Entry) (i : ℕ) (default : Entry) → i < length entries → drop i entries ≡ get_or entries i default ∷ drop (i + 1) entries

@@ -1,13 +1,15 @@
 -- A run of entries that is carried on along a list.
-use Rattle.std.proofs.Common.{◌≡◌, ◌≢◌, ◌<◌, ◌≤◌, arith, ℕ, ◌+◌, true, false, ◌==◌, List, [], ◌∷◌, Result, Ok, Err, length, get_or, drop, refl, ap, subst, inl, inr, ◌∙◌}
+use Rattle.std.proofs.Common.{◌≡◌, ◌≢◌, ◌<◌, ◌≤◌, arith, ℕ, ◌+◌, Bool, true, false, cond, ◌==◌, None, List, [], ◌∷◌, Result, Ok, Err, length, get_or, drop, refl, ap, subst, inl, inr, ◌∙◌}
 use Rattle.std.proofs.lemmas.List.{at_drop_all}
 use Rattle.std.proofs.lemmas.Bool.Decides.{nat_tests}
+use Rattle.std.specs.Option.{option_or}
 use Rattle.std.specs.Result.{OnErr}
 use Rattle.apei_base.specs.Bus.{Access}
 use Rattle.apei_einj.specs.Action.{Runs, IsCutOff, Does, IsCutIn, instruction_of}
 use Rattle.apei_einj.specs.Entry.{of_action}
 use Rattle.apei_einj.specs.declared.entry.Entry.{Entry}
-use Rattle.apei_einj.proofs.RefusedLemmas.{drop-item}
+use Rattle.apei_einj.specs.Refusal.{entry_refusal, first_refusal}
+use Rattle.apei_einj.proofs.RefusedLemmas.{drop-item, entry_refusal-head, first_refusal-rest}
 
 -- what holds whatever the result holds on an error
 pub on_err : {T E P : Type 0} (r : Result T E) → P → OnErr r P
@@ -62,16 +64,43 @@ pub of_action-other : (action : ℕ) (entry : Entry) (entries : List Entry) → 
 of_action-other action entry entries is_other = let test : (entry.action == action) ≡ false = grind (arith, nat_tests) in rw test
 
 -- the entry at an index is of the action: it is the first of those that are left
-own-at : (action : ℕ) (entries : List Entry) (i : ℕ) (default : Entry) → i < length entries → (get_or entries i default).action ≡ action
+pub own-at : (action : ℕ) (entries : List Entry) (i : ℕ) (default : Entry) → i < length entries → (get_or entries i default).action ≡ action
     → of_action action (drop i entries) ≡ get_or entries i default ∷ of_action action (drop (i + 1) entries)
 own-at action entries i default within is_own =
     ap (of_action action) (drop-item entries i default within) ∙ of_action-own action (get_or entries i default) (drop (i + 1) entries) is_own
 
 -- the entry at an index is of another action: it is passed over
-other-at : (action : ℕ) (entries : List Entry) (i : ℕ) (default : Entry) → i < length entries → (get_or entries i default).action ≢ action
+pub other-at : (action : ℕ) (entries : List Entry) (i : ℕ) (default : Entry) → i < length entries → (get_or entries i default).action ≢ action
     → of_action action (drop i entries) ≡ of_action action (drop (i + 1) entries)
 other-at action entries i default within is_other =
     ap (of_action action) (drop-item entries i default within) ∙ of_action-other action (get_or entries i default) (drop (i + 1) entries) is_other
+
+-- the entry at an index is of the action, and none from there on is refused
+pub accepted-own_at : (action : ℕ) (entries : List Entry) (i : ℕ) (default : Entry) → i < length entries → (get_or entries i default).action ≡ action
+    → first_refusal (of_action action (drop i entries)) ≡ None → (entry_refusal (get_or entries i default) ≡ None) × (first_refusal (of_action action (drop (i + 1) entries)) ≡ None)
+accepted-own_at action entries i default within is_own is_none =
+    let here = subst (λ (rest : List Entry). first_refusal rest ≡ None) (own-at action entries i default within is_own) is_none in (
+      entry_refusal-head (get_or entries i default) (of_action action (drop (i + 1) entries)) here,
+      first_refusal-rest (get_or entries i default) (of_action action (drop (i + 1) entries)) here,
+    )
+
+-- it is of another action
+pub accepted-other_at : (action : ℕ) (entries : List Entry) (i : ℕ) (default : Entry) → i < length entries → (get_or entries i default).action ≢ action
+    → first_refusal (of_action action (drop i entries)) ≡ None → first_refusal (of_action action (drop (i + 1) entries)) ≡ None
+accepted-other_at action entries i default within is_other is_none =
+    subst (λ (rest : List Entry). first_refusal rest ≡ None) (other-at action entries i default within is_other) is_none
+
+own_one : (own : Bool) (entry : Entry) (rest : List Entry) → entry_refusal entry ≡ None → first_refusal rest ≡ None → first_refusal (cond own (entry ∷ rest) rest) ≡ None
+unfolding first_refusal
+own_one true entry rest here later = ap (λ o. option_or o (first_refusal rest)) here ∙ later
+own_one false entry rest here later = later
+
+-- among entries that are not refused those of an action are not
+pub accepted-of_action : (action : ℕ) (entries : List Entry) → first_refusal entries ≡ None → first_refusal (of_action action entries) ≡ None
+accepted-of_action action [] is_none = is_none
+accepted-of_action action (entry ∷ entries) is_none =
+    own_one (entry.action == action) entry (of_action action entries) (entry_refusal-head entry entries is_none)
+    (accepted-of_action action entries (first_refusal-rest entry entries is_none))
 
 module _ {S : Type 0} (step : S → Access → S → Type 0) (action : ℕ) (entries : List Entry) (i : ℕ) (default : Entry) (first value : ℕ) (before now : S) where
   -- the entry at an index is of another action, and was passed over

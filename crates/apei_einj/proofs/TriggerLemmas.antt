@@ -1,20 +1,20 @@
 -- The entries of a trigger table, one by one.
-use Rattle.std.proofs.Common.{◌≡◌, ◌≢◌, ◌<◌, ◌≤◌, ℕ, zero, suc, ◌+◌, ◌*◌, ◌/◌, ◌==◌, ◌&&◌, nat_lt, Bool, true, false, if◌then◌else◌, List, ◌∷◌, length, take, drop, slice_get, Option, Some, None, is_some, refl, ap, ◌∙◌, arith}
+use Rattle.std.proofs.Common.{◌≡◌, ◌<◌, ◌≤◌, ℕ, zero, suc, ◌+◌, ◌++◌, ◌*◌, ◌/◌, ◌==◌, ◌&&◌, nat_lt, Bool, true, false, cond, if◌then◌else◌, List, [], ◌∷◌, length, take, drop, slice_get, Option, Some, None, is_some, refl, sym, ap, ◌∙◌, arith}
 use Rattle.std.specs.Option.{option_or}
 use Rattle.std.proofs.lemmas.Bool.Decides.{nat_tests}
-use Rattle.std.proofs.Math.Nat.{le-div_iff_mul-le}
-use Rattle.std.proofs.lemmas.List.{drop-drop, at_drop_all}
+use Rattle.std.proofs.Math.Nat.{le-div_iff_mul-le, mul-div_cancel_left}
+use Rattle.std.proofs.lemmas.Bool.{eqb-true}
+use Rattle.std.proofs.lemmas.List.{drop-drop, at_drop_all, take_more}
 use Rattle.std.proofs.lemmas.Option.{get_or_from_slice_get, slice_get_within}
 use Rattle.apei_base.specs.Region.{gas_refusal}
 use Rattle.apei_base.specs.declared.gas.GasError.{GasError}
 use Rattle.apei_einj.specs.Entry.{entry_of, pieces_of, entries_from, of_action}
-use Rattle.apei_einj.specs.Refusal.{entry_refusal, register_refusal, register_reason}
+use Rattle.apei_einj.specs.Refusal.{entry_refusal, first_refusal, register_refusal, register_reason}
 use Rattle.apei_einj.specs.Trigger.{trigger_entries, trigger_reason, first_reason}
 use Rattle.apei_einj.specs.declared.entry.Entry.{Entry}
 use Rattle.apei_einj.specs.declared.error.EinjError.{EinjError}
 use Rattle.apei_einj.specs.declared.injected.InjectError.{InjectError}
-use Rattle.apei_einj.proofs.RefusedLemmas.{none_first, drop-item}
-use Rattle.apei_einj.proofs.RunLemmas.{of_action-own, of_action-other}
+use Rattle.apei_einj.proofs.RefusedLemmas.{none_first, none_second}
 
 -- the entry of the piece at an index
 entry_from : (n at : ℕ) (bytes : List ℕ) (i : ℕ) → i < n → slice_get (entries_from at (pieces_of n bytes)) i ≡ Some (entry_of (take 32 (drop (32 * i) bytes)) (at + 32 * i))
@@ -46,21 +46,15 @@ pub length-entries : (bytes : List ℕ) → length (trigger_entries bytes) ≡ l
 unfolding trigger_entries
 length-entries bytes = length-from (length bytes / 32) 16 bytes
 
--- the entries from an index on begin with the one that stands there
-item : (entries : List Entry) (i : ℕ) (entry : Entry) → slice_get entries i ≡ Some entry → drop i entries ≡ entry ∷ drop (i + 1) entries
-item entries i entry there =
-    drop-item entries i entry (slice_get_within entries i entry there)
-    ∙ ap (λ x. x ∷ drop (i + 1) entries) (get_or_from_slice_get entries i entry entry there)
+-- so many as the bytes are whole entries
+pub length-whole : (bytes : List ℕ) (n : ℕ) → 32 * n ≡ length bytes → length (trigger_entries bytes) ≡ n
+length-whole bytes n whole = length-entries bytes ∙ ap (λ k. k / 32) (sym whole) ∙ mul-div_cancel_left n (omega arith)
 
--- it is of the action
-pub own-there : (action : ℕ) (entries : List Entry) (i : ℕ) (entry : Entry) → slice_get entries i ≡ Some entry → entry.action ≡ action
-    → of_action action (drop i entries) ≡ entry ∷ of_action action (drop (i + 1) entries)
-own-there action entries i entry there is = ap (of_action action) (item entries i entry there) ∙ of_action-own action entry (drop (i + 1) entries) is
-
--- it is of another action
-pub other-there : (action : ℕ) (entries : List Entry) (i : ℕ) (entry : Entry) → slice_get entries i ≡ Some entry → entry.action ≢ action
-    → of_action action (drop i entries) ≡ of_action action (drop (i + 1) entries)
-other-there action entries i entry there is = ap (of_action action) (item entries i entry there) ∙ of_action-other action entry (drop (i + 1) entries) is
+-- the first so many entries and one more
+pub take_more-there : (entries : List Entry) (i : ℕ) (entry : Entry) → slice_get entries i ≡ Some entry → take (i + 1) entries ≡ take i entries ++ entry ∷ []
+take_more-there entries i entry there =
+    take_more entries i entry (slice_get_within entries i entry there)
+    ∙ ap (λ x. take i entries ++ x ∷ []) (get_or_from_slice_get entries i entry entry there)
 
 -- the first entry is refused
 pub reason-here : (entry : Entry) (entries : List Entry) (error : InjectError) → trigger_reason entry ≡ Some error → first_reason (entry ∷ entries) ≡ Some error
@@ -115,3 +109,17 @@ trigger_runs entry is is_none =
     not_refused entry.at (nat_lt 4 entry.instruction) (entry.instruction == 4) _ (register_reason entry) tests.0 (λ low.
     let below : nat_lt entry.instruction 4 ≡ true = grind (arith, nat_tests, tests.0) in
     named entry other (is_none_of (gas_refusal entry.register) (second_false (nat_lt entry.instruction 4) _ below tests.1)))
+
+triggers_one : (entry : Entry) (later : List Entry) (own : Bool) → (entry.action == 0xff) ≡ own → (first_reason later ≡ None → first_refusal later ≡ None)
+    → first_reason (cond own (entry ∷ later) later) ≡ None → first_refusal (cond own (entry ∷ later) later) ≡ None
+unfolding first_reason first_refusal
+triggers_one entry later true is more is_none =
+    ap (λ o. option_or o (first_refusal later)) (trigger_runs entry (eqb-true entry.action 0xff is) (none_first (trigger_reason entry) (first_reason later) is_none))
+    ∙ more (none_second (trigger_reason entry) (first_reason later) is_none)
+triggers_one entry later false is more is_none = more is_none
+
+-- entries of the trigger action that are not refused can be run
+pub triggers_run : (entries : List Entry) → first_reason (of_action 0xff entries) ≡ None → first_refusal (of_action 0xff entries) ≡ None
+unfolding first_reason first_refusal
+triggers_run [] is_none = refl
+triggers_run (entry ∷ entries) is_none = triggers_one entry (of_action 0xff entries) (entry.action == 0xff) refl (triggers_run entries) is_none

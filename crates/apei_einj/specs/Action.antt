@@ -46,6 +46,10 @@ outside entry cell = cell - bit_and cell (entry.mask * 2 ^ entry.register.bit_of
 abbrev pub cut : Entry → ℕ → ℕ
 cut entry number = number % 2 ^ access_width entry.register
 
+-- what a register holds after its field was set to a value, where it held this before: what is outside the field is kept
+abbrev pub with_field : Entry → ℕ → ℕ → ℕ
+with_field entry cell value = cut entry (bit_or (outside entry cell) (placed entry value))
+
 -- a write keeps what the register holds outside the field: bit 0 of the flags (ACPI 6.5, 18.6.2)
 abbrev pub preserves : Entry → Bool
 preserves entry = entry.flags % 2 == 1
@@ -56,7 +60,7 @@ module _ {S : Type 0} (step : S → Access → S → Type 0) where
   Puts false entry value before after = step before (Writes (entry_reach entry) (cut entry (placed entry value))) after
   Puts true entry value before after =
       (cell : ℕ) × (between : S) × step before (Reads (entry_reach entry) cell) between
-      × step between (Writes (entry_reach entry) (cut entry (bit_or (outside entry cell) (placed entry value)))) after
+      × step between (Writes (entry_reach entry) (with_field entry cell value)) after
 
   -- An instruction leads from a value and a state to others. What it leaves as the value: a read its field, a compared
   -- read 1 where its field is the entry's value and else 0, and a write what was there (ACPI 6.5, 18.6.3; what the

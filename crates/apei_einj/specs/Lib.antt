@@ -1,6 +1,5 @@
 pub mod Action
 pub mod Anchor
-pub mod Determined
 pub mod Entry
 pub mod Injection
 pub mod Part

@@ -1,7 +1,6 @@
 -- Why an entry of an injection table is refused, and which actions it has to have.
-use Rattle.std.specs.Prelude.{ℕ, Bool, ◌+◌, ◌^◌, ◌&&◌, ◌==◌, nat_lt, is_none, if◌then◌else◌, List, [], ◌∷◌, Option, Some, None}
+use Rattle.std.specs.Prelude.{ℕ, Bool, ◌+◌, ◌^◌, not, ◌&&◌, ◌||◌, ◌==◌, nat_lt, is_none, if◌then◌else◌, List, [], ◌∷◌, Option, Some, None}
 use Rattle.std.specs.Option.{option_or}
-use Rattle.apei_base.specs.Refusal.{first_of}
 use Rattle.apei_base.specs.Region.{gas_refusal}
 use Rattle.apei_base.specs.declared.gas.GasError.{GasError}
 use Rattle.apei_base.specs.declared.gas.GasError.TheVariants.{PastEnd}
@@ -41,12 +40,15 @@ first_refusal (entry ∷ entries) = option_or (entry_refusal entry) (first_refus
 abbrev pub lacks : ℕ → List Entry → Bool
 lacks action entries = is_none (anchor_of action entries)
 
--- which action is missing, the first in this order; the error type may be set by action 2 or by action 8 (own choice)
+-- an action is missing: it has no anchor; the error type may be set by action 2 or by action 8 (own choice)
+abbrev pub is_missing : ℕ → List Entry → Bool
+is_missing action entries = lacks action entries && (not (action == 2) || lacks 8 entries)
+
+-- the first of some actions that is missing
+unfoldable pub first_missing : List Entry → List ℕ → Option EinjError
+first_missing entries [] = None
+first_missing entries (action ∷ actions) = if is_missing action entries then Some (Missing action) else first_missing entries actions
+
+-- which action is missing, the first in this order (own choice)
 abbrev pub missing_refusal : List Entry → Option EinjError
-missing_refusal entries = first_of (
-    (lacks 1 entries, Missing 1) ∷
-    (lacks 2 entries && lacks 8 entries, Missing 2) ∷
-    (lacks 3 entries, Missing 3) ∷
-    (lacks 5 entries, Missing 5) ∷
-    (lacks 6 entries, Missing 6) ∷
-    (lacks 7 entries, Missing 7) ∷ [])
+missing_refusal entries = first_missing entries (1 ∷ 2 ∷ 3 ∷ 5 ∷ 6 ∷ 7 ∷ [])

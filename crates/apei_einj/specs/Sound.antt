@@ -5,7 +5,7 @@ use Rattle.apei_base.specs.Cut.{CutsInto}
 use Rattle.apei_base.specs.Table.{IsTable}
 use Rattle.apei_einj.specs.Anchor.{may_anchor, anchor_of}
 use Rattle.apei_einj.specs.Entry.{pieces_of}
-use Rattle.apei_einj.specs.Table.{stated_count, has_header_size}
+use Rattle.apei_einj.specs.Table.{stated_count, has_header_size, IsRunnable}
 use Rattle.apei_einj.specs.declared.entry.Entry.{Entry}
 
 -- the bytes of the entries: so many pieces as the table states, from 48 on (ACPI 6.5, 18.6.1)
@@ -29,6 +29,11 @@ pub record HasAnchors (entries : List Entry) : Type 0 where
   pub execute : IsSome (anchor_of 5 entries)
   pub check_busy : IsSome (anchor_of 6 entries)
   pub get_status : IsSome (anchor_of 7 entries)
+
+-- What reading a table proves of the entries that it gives: each can be run, and no anchor is missing (own choice).
+pub record CanInject (entries : List Entry) : Type 0 where
+  pub runnable : AllByRecursion IsRunnable entries
+  pub anchored : HasAnchors entries
 
 -- the entry is of the action, and may be its anchor (own choice)
 abbrev pub fits : ℕ → Entry → Bool

@@ -1,10 +1,9 @@
 -- What an injection table says: its entries, or the first reason why it is refused.
 use Rattle.std.specs.Prelude.{◌≡◌, ℕ, Bool, true, ◌*◌, ◌/◌, ◌&&◌, ◌||◌, ◌==◌, nat_le, if◌then◌else◌, codes, List, length, drop, Option, Some, None}
 use Rattle.std.specs.List.{filter}
-use Rattle.std.specs.Option.{option_or}
+use Rattle.std.specs.Option.{option_or, option_map}
 use Rattle.apei_base.specs.Number.{number_at}
 use Rattle.apei_base.specs.Table.{sdt_refusal}
-use Rattle.apei_base.specs.declared.sdt.SdtError.{SdtError}
 use Rattle.apei_einj.specs.Entry.{pieces_of, entries_from, is_injection}
 use Rattle.apei_einj.specs.Refusal.{entry_refusal, first_refusal, missing_refusal}
 use Rattle.apei_einj.specs.declared.entry.Entry.{Entry}
@@ -19,11 +18,6 @@ stated_count bytes = number_at 44 4 bytes
 -- (ACPI 6.5, 18.6.1; that 12 is let in: After Linux 6.1, drivers/acpi/apei/einj.c)
 abbrev pub has_header_size : List ℕ → Bool
 has_header_size bytes = (number_at 36 4 bytes == 48) || (number_at 36 4 bytes == 12)
-
--- the refusal for bytes that are no table
-abbrev pub no_table : Option SdtError → Option EinjError
-no_table None = None
-no_table (Some why) = Some (Table why)
 
 -- why the injection header is refused: the table is shorter than 48 bytes, or states another size
 abbrev pub header_refusal : List ℕ → Option EinjError
@@ -42,7 +36,7 @@ einj_entries bytes = filter is_injection (entries_from 48 (pieces_of (stated_cou
 -- why bytes are no injection table, the first reason that holds (own choice)
 unfoldable pub einj_refusal : List ℕ → Option EinjError
 einj_refusal bytes =
-    option_or (no_table (sdt_refusal (codes "EINJ") bytes))
+    option_or (option_map Table (sdt_refusal (codes "EINJ") bytes))
     (option_or (header_refusal bytes)
     (option_or (count_refusal bytes)
     (option_or (first_refusal (einj_entries bytes)) (missing_refusal (einj_entries bytes)))))

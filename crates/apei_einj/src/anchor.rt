@@ -1,7 +1,7 @@
 //! The entries that stand for what an action reads or writes, and the actions that lack one.
 ghost use Rattle.std.specs.Prelude.{◌≡◌, option_copied, is_none};
 ghost use Rattle.apei_einj.specs.Anchor.{anchor_of};
-ghost use Rattle.apei_einj.specs.Refusal.{lacks, missing_refusal};
+ghost use Rattle.apei_einj.specs.Refusal.{lacks, is_missing, first_missing, missing_refusal};
 
 use crate::action::{
     CHECK_BUSY, EXECUTE, GET_ERROR_TYPE, GET_STATUS, GET_TRIGGER_TABLE, SET_ERROR_TYPE,
@@ -29,33 +29,39 @@ fn lacks(entries: &[Entry], action: u8) -> bool
     anchor_of(entries, action).is_none()
 }
 
+// Whether the action is missing. The error type may be set by either of two.
+fn is_missing(entries: &[Entry], action: u8) -> bool
+    ensures { result ≡ is_missing action entries.now }
+{
+    lacks(entries, action) && (action != SET_ERROR_TYPE || lacks(entries, SET_TYPE_WITH_ADDRESS))
+}
+
+// The first of some actions that is missing.
+#[tactic(auto, unfolding(crate::specs::Refusal::first_missing))]
+fn first_missing(entries: &[Entry], actions: &[u8]) -> Option<EinjError>
+    ensures { result ≡ first_missing entries.now actions.now }
+{
+    for action in actions {
+        if is_missing(entries, *action) {
+            return Some(EinjError::Missing { action: *action });
+        }
+    }
+    None
+}
+
 /// Which action is missing, the first in the order 1, 2, 3, 5, 6, 7.
 pub(crate) fn missing_refusal(entries: &[Entry]) -> Option<EinjError>
     ensures { result ≡ missing_refusal entries.now }
 {
-    if lacks(entries, GET_TRIGGER_TABLE) {
-        return Some(EinjError::Missing {
-            action: GET_TRIGGER_TABLE,
-        });
-    }
-    if lacks(entries, SET_ERROR_TYPE) && lacks(entries, SET_TYPE_WITH_ADDRESS) {
-        return Some(EinjError::Missing {
-            action: SET_ERROR_TYPE,
-        });
-    }
-    if lacks(entries, GET_ERROR_TYPE) {
-        return Some(EinjError::Missing {
-            action: GET_ERROR_TYPE,
-        });
-    }
-    if lacks(entries, EXECUTE) {
-        return Some(EinjError::Missing { action: EXECUTE });
-    }
-    if lacks(entries, CHECK_BUSY) {
-        return Some(EinjError::Missing { action: CHECK_BUSY });
-    }
-    if lacks(entries, GET_STATUS) {
-        return Some(EinjError::Missing { action: GET_STATUS });
-    }
-    None
+    first_missing(
+        entries,
+        &[
+            GET_TRIGGER_TABLE,
+            SET_ERROR_TYPE,
+            GET_ERROR_TYPE,
+            EXECUTE,
+            CHECK_BUSY,
+            GET_STATUS,
+        ],
+    )
 }

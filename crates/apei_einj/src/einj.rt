@@ -13,6 +13,7 @@ use std::marker::Model;
 
 /// The entries of an EINJ, the error injection table. A contract sees the list of them.
 ///
+/// Each of them can be run, and each action that an injection needs has its anchor.
 /// Source: ACPI 6.5, 18.6.1.
 #[derive(Debug, Drop)]
 pub struct Einj {
@@ -21,18 +22,19 @@ pub struct Einj {
 
 impl Model for Einj {
     ghost use Rattle.std.specs.Prelude.{List};
-    ghost use Rattle.std.specs.List.{AllByRecursion};
     ghost use Rattle.apei_einj.specs.declared.entry.Entry.{Entry};
-    ghost use Rattle.apei_einj.specs.Table.{IsRunnable};
+    ghost use Rattle.apei_einj.specs.Sound.{CanInject};
 
     ghost Value = { List Entry };
 
-    ghost invariant = { λ e. AllByRecursion IsRunnable e.entries.items };
+    ghost invariant = { λ e. CanInject e.entries.items };
 
     ghost view = { λ e. e.entries.items };
 }
 
 impl Einj {
+    ghost use Rattle.apei_einj.specs.Sound.{CanInject};
+
     /// Reads the injection entries of an EINJ, in table order: those of the actions 0 to 8.
     ///
     /// `bytes` is the whole table with its header. Offsets in errors are in bytes from its start. Entries of other
@@ -43,7 +45,8 @@ impl Einj {
     pub fn read(alloc: Global, bytes: &[u8]) -> Result<Einj, EinjError>
         ensures found { IfOk result (λ einj. einj ≡ einj_entries bytes.now) }
         ensures accepted { OnOk result (einj_refusal bytes.now ≡ None) }
-        ensures refused { IfErr result (λ error. error ≢ OutOfMemory → einj_refusal bytes.now ≡ Some error) }
+        ensures refused { IfErr result
+            (λ error. error ≢ OutOfMemory → einj_refusal bytes.now ≡ Some error) }
     {
         Sdt::read(bytes, b"EINJ")?;
         check_header(bytes)?;
@@ -57,7 +60,8 @@ impl Einj {
 
     /// The entries of the actions 0 to 8, in table order.
     pub fn entries(&self) -> &[Entry]
-        ensures { result.now ≡ self.now }
+        ensures list { result.now ≡ self.now }
+        ensures accepted { CanInject self.now }
     {
         &self.entries
     }

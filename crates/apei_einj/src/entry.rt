@@ -3,7 +3,6 @@ ghost use Rattle.apei_einj.specs.Anchor.{may_anchor};
 ghost use Rattle.apei_einj.specs.Entry.{entry_of, is_injection, reads_register, writes_register};
 ghost use Rattle.apei_einj.specs.Refusal.{register_reason, entry_refusal};
 
-use crate::EinjError;
 use crate::action::{
     CHECK_BUSY, EXECUTE, GET_ERROR_TYPE, GET_STATUS, GET_TRIGGER_TABLE, SET_ERROR_TYPE,
     SET_TYPE_WITH_ADDRESS,
@@ -11,6 +10,7 @@ use crate::action::{
 use crate::instruction::{
     NO_OPERATION, READ_REGISTER, READ_REGISTER_VALUE, WRITE_REGISTER, WRITE_REGISTER_VALUE,
 };
+use crate::{EinjError, address_structure};
 use apei_base::{Gas, GasError, gas_at, u64_at};
 
 /// An injection entry: one instruction of an action, with the register that it is about.
@@ -36,10 +36,24 @@ pub struct Entry {
     pub mask: u64,
 }
 
-/// How far the address structure of action 8 reaches behind its first byte.
-const LAST_BYTE: u64 = 35;
-
 impl Entry {
+    /// An entry that does nothing.
+    pub(crate) const NOTHING: Entry = Entry {
+        at: 0,
+        action: 0,
+        instruction: NO_OPERATION,
+        flags: 0,
+        register: Gas {
+            space: 0,
+            bit_width: 0,
+            bit_offset: 0,
+            access: 0,
+            address: 0,
+        },
+        value: 0,
+        mask: 0,
+    };
+
     /// The entry that the bytes spell, and that begins at `at` in its table.
     pub(crate) fn read(bytes: &[u8], at: u32) -> Entry
         requires { 32 ≤ length bytes.now }
@@ -96,7 +110,9 @@ impl Entry {
         if let Err(why) = self.register.check() {
             return Some(why);
         }
-        if self.action == SET_TYPE_WITH_ADDRESS && self.register.address > u64::MAX - LAST_BYTE {
+        if self.action == SET_TYPE_WITH_ADDRESS
+            && self.register.address > u64::MAX - (address_structure::LENGTH - 1)
+        {
             return Some(GasError::PastEnd);
         }
         None

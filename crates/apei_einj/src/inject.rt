@@ -19,7 +19,8 @@ const BUSY_LIMIT: u32 = 1000;
 // Waits while the machine is busy, and gives how many times it was.
 fn wait<B: Bus>(entries: &[Entry], bus: &mut B) -> Result<u32, InjectError>
     requires { first_refusal entries.now ≡ None }
-    ensures { IsDone (Waits B.step entries.now) (B.state bus.old) (B.faults bus.old) result (B.state bus.new) (B.faults bus.new) }
+    ensures { IsDone (Waits B.step entries.now)
+        (B.state bus.old) (B.faults bus.old) result (B.state bus.new) (B.faults bus.new) }
 {
     for busy_reads in 0..BUSY_LIMIT {
         let value = act(entries, CHECK_BUSY, 0, bus)?;
@@ -44,7 +45,8 @@ fn check_status(status: u64) -> Result<(), InjectError>
 // Tells the machine to inject the error, and gives how many times it was busy.
 fn execute<B: Bus>(entries: &[Entry], bus: &mut B) -> Result<u32, InjectError>
     requires { first_refusal entries.now ≡ None }
-    ensures { IsDone (Executes B.step entries.now) (B.state bus.old) (B.faults bus.old) result (B.state bus.new) (B.faults bus.new) }
+    ensures { IsDone (Executes B.step entries.now)
+        (B.state bus.old) (B.faults bus.old) result (B.state bus.new) (B.faults bus.new) }
 {
     act(entries, EXECUTE, 0, bus)?;
     let busy_reads = wait(entries, bus)?;
@@ -56,7 +58,8 @@ fn execute<B: Bus>(entries: &[Entry], bus: &mut B) -> Result<u32, InjectError>
 // Triggers the error, and ends.
 fn finish<B: Bus>(entries: &[Entry], bus: &mut B) -> Result<(), InjectError>
     requires { first_refusal entries.now ≡ None }
-    ensures { IsDone (Ends B.step entries.now) (B.state bus.old) (B.faults bus.old) result (B.state bus.new) (B.faults bus.new) }
+    ensures { IsDone (Ends B.step entries.now)
+        (B.state bus.old) (B.faults bus.old) result (B.state bus.new) (B.faults bus.new) }
 {
     let address = act(entries, GET_TRIGGER_TABLE, 0, bus)?;
     trigger(bus, address)?;
@@ -71,7 +74,8 @@ fn inject_by<B: Bus>(
     bus: &mut B,
 ) -> Result<Injected, InjectError>
     requires { first_refusal entries.now ≡ None }
-    ensures { IsDone (Injects B.step entries.now request.now) (B.state bus.old) (B.faults bus.old) result (B.state bus.new) (B.faults bus.new) }
+    ensures { IsDone (Injects B.step entries.now request.now)
+        (B.state bus.old) (B.faults bus.old) result (B.state bus.new) (B.faults bus.new) }
 {
     prepare(entries, request, bus)?;
     let busy_reads = execute(entries, bus)?;
@@ -88,10 +92,12 @@ impl Einj {
     /// after it. The call takes no memory.
     /// Source: ACPI 6.5, 18.6.6; the order: After Linux 6.1, drivers/acpi/apei/einj.c.
     pub fn inject<B: Bus>(&self, request: &Request, bus: &mut B) -> Result<Injected, InjectError>
-        ensures does { Injects B.step self.now request.now (B.state bus.old) result (B.state bus.new) }
+        ensures does { Injects B.step self.now request.now
+            (B.state bus.old) result (B.state bus.new) }
         // An access failed in this call exactly where the answer is `Fault`.
         ensures cause { CountsFault result (B.faults bus.old) (B.faults bus.new) }
-        ensures no_address { (result ≡ Err NoAddress) ↔ IsTrue (lacks_address self.now request.now) }
+        ensures no_address { (result
+            ≡ Err NoAddress) ↔ IsTrue (lacks_address self.now request.now) }
     {
         inject_by(&self.entries, request, bus)
     }

@@ -5,6 +5,7 @@
 
 mod access;
 mod action;
+pub mod address_structure;
 mod anchor;
 mod einj;
 mod entry;
@@ -28,8 +29,8 @@ pub use error::EinjError;
 pub use injected::{InjectError, Injected};
 pub use laws::{
     a_table_whose_entries_can_be_run_is_accepted, an_accepted_table_is_its_header_and_its_entries,
-    an_access_in_memory_has_one_outcome, an_anchor_is_the_first_entry_that_fits,
-    an_injection_ends_in_one_way, each_entry_of_an_accepted_table_can_be_run,
+    an_anchor_is_the_first_entry_that_fits, an_injection_ends_in_one_way,
+    each_entry_of_an_accepted_table_can_be_run,
 };
 pub use request::{Place, Request, is_error_type};
 pub use run::RunError;

@@ -11,21 +11,8 @@ ghost use Rattle.apei_einj.specs.declared.injected.InjectError.TheVariants.{Faul
 use crate::access::{act, store};
 use crate::action::{BEGIN, GET_ERROR_TYPE, SET_ERROR_TYPE, SET_TYPE_WITH_ADDRESS};
 use crate::anchor::anchor_of;
-use crate::{Entry, InjectError, Request};
+use crate::{Entry, InjectError, Request, address_structure};
 use apei_base::Bus;
-
-// Where the fields of the address structure stand, in bytes from its start.
-const TYPE: u64 = 0;
-
-const FLAGS: u64 = 8;
-
-const PROCESSOR: u64 = 12;
-
-const ADDRESS: u64 = 16;
-
-const MASK: u64 = 24;
-
-const PCIE: u64 = 32;
 
 // Tests that the place of a request can be told.
 fn check_place(entries: &[Entry], request: &Request) -> Result<(), InjectError>
@@ -52,21 +39,43 @@ fn check_type(request: &Request, types: u64) -> Result<(), InjectError>
 // Writes the address structure at an address.
 fn write_address<B: Bus>(bus: &mut B, at: u64, request: &Request) -> Result<(), InjectError>
     requires { at + 36 ≤ 2 ^ 64 }
-    ensures { IsDone (WritesRows B.step at (address_structure request.now.error request.now.place)) (B.state bus.old) (B.faults bus.old) result (B.state bus.new) (B.faults bus.new) }
+    ensures { IsDone (WritesRows B.step at (address_structure request.now.error request.now.place))
+        (B.state bus.old) (B.faults bus.old) result (B.state bus.new) (B.faults bus.new) }
 {
     let place = request.place;
-    store(bus, at + TYPE, 32, u64::from(request.error))?;
-    store(bus, at + FLAGS, 32, u64::from(place.flags()))?;
-    store(bus, at + PROCESSOR, 32, u64::from(place.processor()))?;
-    store(bus, at + ADDRESS, 64, place.address())?;
-    store(bus, at + MASK, 64, place.mask())?;
-    store(bus, at + PCIE, 32, u64::from(place.pcie()))
+    store(
+        bus,
+        at + address_structure::TYPE,
+        32,
+        u64::from(request.error),
+    )?;
+    store(
+        bus,
+        at + address_structure::FLAGS,
+        32,
+        u64::from(place.flags()),
+    )?;
+    store(
+        bus,
+        at + address_structure::PROCESSOR,
+        32,
+        u64::from(place.processor()),
+    )?;
+    store(bus, at + address_structure::ADDRESS, 64, place.address())?;
+    store(bus, at + address_structure::MASK, 64, place.mask())?;
+    store(
+        bus,
+        at + address_structure::PCIE,
+        32,
+        u64::from(place.pcie()),
+    )
 }
 
 // Sets the error type of a request.
 fn set_type<B: Bus>(entries: &[Entry], request: &Request, bus: &mut B) -> Result<(), InjectError>
     requires { first_refusal entries.now ≡ None }
-    ensures { IsDone (SetsType B.step entries.now request.now (anchor_of 8 entries.now)) (B.state bus.old) (B.faults bus.old) result (B.state bus.new) (B.faults bus.new) }
+    ensures { IsDone (SetsType B.step entries.now request.now (anchor_of 8 entries.now))
+        (B.state bus.old) (B.faults bus.old) result (B.state bus.new) (B.faults bus.new) }
 {
     match anchor_of(entries, SET_TYPE_WITH_ADDRESS) {
         Some(anchor) => write_address(bus, anchor.register.address, request),
@@ -84,7 +93,8 @@ pub(crate) fn prepare<B: Bus>(
     bus: &mut B,
 ) -> Result<(), InjectError>
     requires { first_refusal entries.now ≡ None }
-    ensures { IsDone (Prepares B.step entries.now request.now) (B.state bus.old) (B.faults bus.old) result (B.state bus.new) (B.faults bus.new) }
+    ensures { IsDone (Prepares B.step entries.now request.now)
+        (B.state bus.old) (B.faults bus.old) result (B.state bus.new) (B.faults bus.new) }
 {
     check_place(entries, request)?;
     let types = act(entries, GET_ERROR_TYPE, 0, bus)?;

@@ -1,5 +1,6 @@
 //! The interpreter: the entries of an action are run over a bus, in table order.
-ghost use Rattle.std.specs.Prelude.{◌≡◌, ◌<◌, ◌≤◌, None, Ok, IfOk, OnOk, OnErr};
+ghost use Rattle.std.specs.Prelude.{◌≡◌, ◌<◌, None, Ok, IfOk, OnErr};
+ghost use Rattle.apei_base.specs.Bus.{CountsFaults};
 ghost use Rattle.apei_einj.specs.Action.{Runs, IsCutOff};
 ghost use Rattle.apei_einj.specs.Entry.{of_action};
 ghost use Rattle.apei_einj.specs.Refusal.{first_refusal};
@@ -36,12 +37,12 @@ pub(crate) fn run_entries<B: Bus>(
     mut value: u64,
     bus: &mut B,
 ) -> Result<u64, RunError>
-    requires { first_refusal entries.now ≡ None }
-    ensures ok { IfOk result (λ next. Runs B.step (of_action action entries.now) value (B.state bus.old) next (B.state bus.new)) }
-    ensures err { OnErr result (IsCutOff B.step (of_action action entries.now) value (B.state bus.old) (B.state bus.new)) }
-    ensures cause { OnErr result (B.faults bus.old < B.faults bus.new) }
-    ensures unfailed { OnOk result (B.faults bus.new ≡ B.faults bus.old) }
-    ensures grows { B.faults bus.old ≤ B.faults bus.new }
+    requires { first_refusal (of_action action entries.now) ≡ None }
+    ensures ok { IfOk result (λ next. Runs B.step (of_action action entries.now) value
+        (B.state bus.old) next (B.state bus.new)) }
+    ensures err { OnErr result (IsCutOff B.step (of_action action entries.now) value
+        (B.state bus.old) (B.state bus.new)) }
+    ensures count { CountsFaults result (B.faults bus.old) (B.faults bus.new) }
 {
     for entry in entries {
         if entry.action == action {
@@ -58,11 +59,11 @@ impl Einj {
     /// and none after it. The call takes no memory.
     /// Source: ACPI 6.5, 18.6.3.
     pub fn run_action<B: Bus>(&self, action: u8, value: u64, bus: &mut B) -> Result<u64, RunError>
-        ensures ok { IfOk result (λ next. Runs B.step (of_action action self.now) value (B.state bus.old) next (B.state bus.new)) }
-        ensures err { OnErr result (IsCutOff B.step (of_action action self.now) value (B.state bus.old) (B.state bus.new)) }
-        ensures cause { OnErr result (B.faults bus.old < B.faults bus.new) }
-        ensures unfailed { OnOk result (B.faults bus.new ≡ B.faults bus.old) }
-        ensures grows { B.faults bus.old ≤ B.faults bus.new }
+        ensures ok { IfOk result (λ next. Runs B.step (of_action action self.now) value
+            (B.state bus.old) next (B.state bus.new)) }
+        ensures err { OnErr result (IsCutOff B.step (of_action action self.now) value
+            (B.state bus.old) (B.state bus.new)) }
+        ensures count { CountsFaults result (B.faults bus.old) (B.faults bus.new) }
         ensures above { 8 < action → (result ≡ Ok value) × (B.state bus.new ≡ B.state bus.old) }
     {
         run_entries(&self.entries, action, value, bus)

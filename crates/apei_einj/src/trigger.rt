@@ -1,15 +1,15 @@
 //! The trigger table: it is copied, tested, and run.
-ghost use Rattle.std.specs.Prelude.{◌≡◌, ◌≢◌, ◌≤◌, ◌<◌, ◌+◌, ◌*◌, ◌/◌, None, Some, Err, length, slice_get, OnOk};
+ghost use Rattle.std.specs.Prelude.{◌≡◌, ◌≢◌, ◌≤◌, ◌<◌, ◌+◌, ◌*◌, Some, Err, length, slice_get, OnOk};
 ghost use Rattle.std.specs.Result.{result_err};
 ghost use Rattle.apei_einj.specs.Entry.{of_action};
-ghost use Rattle.apei_einj.specs.Part.{IsDone, Acts};
-ghost use Rattle.apei_einj.specs.Trigger.{Triggers, TriggersBehind, trigger_count, trigger_header_refusal, trigger_entries, trigger_reason, trigger_refusal};
+ghost use Rattle.apei_einj.specs.Part.{IsDone};
+ghost use Rattle.apei_einj.specs.Trigger.{Triggers, TriggersBehind, trigger_count, trigger_header_refusal, trigger_entries, trigger_reason, first_reason};
 ghost use Rattle.apei_einj.specs.declared.injected.InjectError.TheVariants.{Fault};
 
-use crate::access::{take, take_any};
+use crate::access::{act_own, take, take_any};
 use crate::action::TRIGGER;
 use crate::header::ENTRY_SIZE;
-use crate::instruction::{NO_OPERATION, run_entry};
+use crate::instruction::NO_OPERATION;
 use crate::{Entry, InjectError};
 use apei_base::{Bus, u32_at};
 
@@ -70,60 +70,69 @@ fn check_entry(entry: &Entry) -> Result<(), InjectError>
     Ok(())
 }
 
+// Reads the entries behind the header, as many as `into` has room for.
+fn read_entries(bytes: &[u8], into: &mut [Entry])
+    requires whole { 32 * length into.old ≡ length bytes.now }
+    requires few { length bytes.now ≤ 4080 }
+    ensures { into.new ≡ trigger_entries bytes.now }
+{
+    for index in 0..into.len() {
+        into[index] = entry_at(bytes, index);
+    }
+}
+
 // Tests the entries of the trigger action.
-fn check_entries(bytes: &[u8]) -> Result<(), InjectError>
-    requires { length bytes.now ≤ 4080 }
-    ensures value { result_err result ≡ trigger_refusal bytes.now }
+fn check_entries(entries: &[Entry]) -> Result<(), InjectError>
+    ensures value { result_err result ≡ first_reason (of_action 0xff entries.now) }
     ensures unfailed { result ≢ Err Fault }
 {
-    for index in 0..bytes.len() / ENTRY_SIZE {
-        let entry = entry_at(bytes, index);
+    for entry in entries {
         if entry.action == TRIGGER {
-            check_entry(&entry)?;
+            check_entry(entry)?;
         }
     }
     Ok(())
-}
-
-// Runs the entries of the trigger action, and gives the value that they leave.
-fn run_entries<B: Bus>(bytes: &[u8], bus: &mut B) -> Result<u64, InjectError>
-    requires few { length bytes.now ≤ 4080 }
-    requires tested { trigger_refusal bytes.now ≡ None }
-    ensures { IsDone (Acts B.step (trigger_entries bytes.now) 0xff 0) (B.state bus.old) (B.faults bus.old) result (B.state bus.new) (B.faults bus.new) }
-{
-    let mut value = 0;
-    for index in 0..bytes.len() / ENTRY_SIZE {
-        let entry = entry_at(bytes, index);
-        if entry.action == TRIGGER {
-            value = run_entry(&entry, value, bus)?;
-        }
-    }
-    Ok(value)
 }
 
 // Copies the entries behind the header at an address, tests them, and runs them.
-fn run_behind<B: Bus>(bus: &mut B, address: u64, entries: &mut [u8]) -> Result<(), InjectError>
-    requires { length entries.old ≤ 4080 }
-    ensures { IsDone (TriggersBehind B.step address (length entries.old)) (B.state bus.old) (B.faults bus.old) result (B.state bus.new) (B.faults bus.new) }
+fn run_behind<B: Bus>(
+    bus: &mut B,
+    address: u64,
+    bytes: &mut [u8],
+    entries: &mut [Entry],
+) -> Result<(), InjectError>
+    requires whole { 32 * length entries.old ≡ length bytes.old }
+    requires few { length bytes.old ≤ 4080 }
+    ensures { IsDone (TriggersBehind B.step address (length bytes.old))
+        (B.state bus.old) (B.faults bus.old) result (B.state bus.new) (B.faults bus.new) }
 {
-    take_any(bus, address, HEADER, entries)?;
+    take_any(bus, address, HEADER, bytes)?;
+    read_entries(bytes, entries);
     check_entries(entries)?;
-    run_entries(entries, bus)?;
+    act_own(entries, TRIGGER, 0, bus)?;
     Ok(())
 }
 
-// The same, with so many entries.
+// Runs the table at an address, behind its header, with so many entries.
 fn run_counted<B: Bus>(bus: &mut B, address: u64, count: usize) -> Result<(), InjectError>
     requires { count ≤ 127 }
-    ensures { IsDone (TriggersBehind B.step address (32 * count)) (B.state bus.old) (B.faults bus.old) result (B.state bus.new) (B.faults bus.new) }
+    ensures { IsDone (TriggersBehind B.step address (32 * count))
+        (B.state bus.old) (B.faults bus.old) result (B.state bus.new) (B.faults bus.new) }
 {
-    let mut entries = [0u8; 4080];
-    run_behind(bus, address, &mut entries[..ENTRY_SIZE * count])
+    let mut bytes = [0u8; 4064];
+    let mut entries = [Entry::NOTHING; 127];
+    run_behind(
+        bus,
+        address,
+        &mut bytes[..ENTRY_SIZE * count],
+        &mut entries[..count],
+    )
 }
 
 /// Runs the trigger table at an address.
 pub(crate) fn trigger<B: Bus>(bus: &mut B, address: u64) -> Result<(), InjectError>
-    ensures { IsDone (Triggers B.step address) (B.state bus.old) (B.faults bus.old) result (B.state bus.new) (B.faults bus.new) }
+    ensures { IsDone (Triggers B.step address)
+        (B.state bus.old) (B.faults bus.old) result (B.state bus.new) (B.faults bus.new) }
 {
     let mut header = [0u8; HEADER];
     take(bus, address, 0, &mut header)?;

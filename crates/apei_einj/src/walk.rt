@@ -12,10 +12,12 @@ use std::alloc::Global;
 
 // One entry more, where an injection runs its action and it is not refused.
 fn keep(entries: &mut Vec<Entry>, entry: Entry) -> Result<(), EinjError>
-    ensures kept { OnOk result (entries.new.items ≡ entries.old.items ++ filter is_injection (entry ∷ [])) }
+    ensures kept { OnOk result
+        (entries.new.items ≡ entries.old.items ++ filter is_injection (entry ∷ [])) }
     ensures runnable { OnOk result (is_injection entry ≡ true → entry_refusal entry ≡ None) }
     ensures injection { IfErr result (λ error. is_injection entry ≡ true) }
-    ensures refused { IfErr result (λ error. error ≢ OutOfMemory → entry_refusal entry ≡ Some error) }
+    ensures refused { IfErr result
+        (λ error. error ≢ OutOfMemory → entry_refusal entry ≡ Some error) }
 {
     if !entry.is_injection() {
         return Ok(());
@@ -34,7 +36,8 @@ pub(crate) fn walk(alloc: Global, bytes: &[u8]) -> Result<Vec<Entry>, EinjError>
     requires counted { 32 * stated_count bytes.now ≡ length (drop 48 bytes.now) }
     ensures found { IfOk result (λ entries. entries.items ≡ einj_entries bytes.now) }
     ensures runnable { IfOk result (λ entries. AllByRecursion IsRunnable entries.items) }
-    ensures refused { IfErr result (λ error. error ≢ OutOfMemory → first_refusal (einj_entries bytes.now) ≡ Some error) }
+    ensures refused { IfErr result
+        (λ error. error ≢ OutOfMemory → first_refusal (einj_entries bytes.now) ≡ Some error) }
 {
     let mut entries = Vec::new(alloc);
     let (_header, mut rest) = bytes.split_at(FIRST_ENTRY);

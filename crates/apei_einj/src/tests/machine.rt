@@ -151,6 +151,8 @@ impl Bus for Slow {
 
     ghost answers = { λ before after access step. untold_answers access };
 
+    ghost unmapped = { λ before after access step. tt };
+
     fn read(&mut self, at: &Region) -> Result<u64, BusFault> {
         if at.address == STATUS && self.busy > 0 {
             self.busy -= 1;

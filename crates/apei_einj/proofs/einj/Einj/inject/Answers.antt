@@ -4,7 +4,7 @@ use Rattle.apei_einj.proofs.NoAddressLemmas.{no_address}
 use Rattle.apei_einj.proofs.einj.Einj.inject.Goals as goal
 
 pub inject_by-requires : goal.inject_by-requires
-inject_by-requires g c = rw c.deref.ensures.value (runnable_accepted c.self.inside.entries.items c.self.invariant)
+inject_by-requires g c = rw c.deref.ensures.value (runnable_accepted c.self.inside.entries.items c.self.invariant.runnable)
 
 pub returns-clause-no_address : goal.returns-clause-no_address
 returns-clause-no_address g c =
