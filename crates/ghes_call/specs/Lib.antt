@@ -1,2 +1,4 @@
 pub mod Buffer
+pub mod Call
 pub mod Packet
+pub mod Receive

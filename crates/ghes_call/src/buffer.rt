@@ -54,4 +54,16 @@ impl Buffer {
             self.0.clear();
         }
     }
+
+    /// Makes it so many bytes long. No memory is taken.
+    pub fn set_len(&mut self, count: usize)
+        requires { count ≤ self.old.room }
+        ensures length { length self.new.bytes ≡ count }
+        ensures room { self.old.room ≤ self.new.room }
+    {
+        // It cannot fail below the room.
+        if self.0.resize_with(count, || 0).is_err() {
+            self.0.clear();
+        }
+    }
 }

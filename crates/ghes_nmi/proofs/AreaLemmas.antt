@@ -1,0 +1,62 @@
+-- What is read of an area is the front of the block that stands there, with zeros behind it.
+use Rattle.std.proofs.Common.{◌≡◌, ◌≢◌, ◌≤◌, ◌<◌, ◌⊎◌, inl, inr, subst, ℕ, ◌+◌, ◌-◌, List, [], ◌++◌, length, take, drop, sym, ap, ◌∙◌, arith, append-nil, Option, Some, None, unwrap_or}
+use Rattle.std.specs.Prelude.{replicate, option_map}
+use Rattle.std.proofs.lemmas.Bool.{cases_lt}
+use Rattle.std.proofs.lemmas.Option.{none-some}
+use Rattle.std.proofs.lemmas.List.{take-append-le, take-replicate, take_all}
+use Rattle.std.proofs.Math.Seq.{take-append-add, take-append_seam, take-add}
+use Rattle.apei_base.specs.Firmware.{shown}
+use Rattle.apei_base.specs.Number.{number_at}
+use Rattle.cper_block.specs.Image.{padded}
+
+-- a front that is at hand
+front_at_hand : (n m : ℕ) (block : List ℕ) → n ≤ length block → take n (block ++ replicate m 0) ≡ padded n block
+front_at_hand n m block at_hand =
+    let none : n - length block ≡ 0 = omega (arith, at_hand) in
+    take-append-le n block (replicate m 0) at_hand ∙ sym (ap (λ k. take n block ++ replicate k 0) none ∙ append-nil (take n block))
+
+-- a front that is longer than the block
+front_past : (k m : ℕ) (block : List ℕ) → k ≤ m → take (length block + k) (block ++ replicate m 0) ≡ padded (length block + k) block
+front_past k m block fits =
+    let rest : length block + k - length block ≡ k = omega arith in
+    let whole : take (length block + k) block ≡ block = take_all (length block + k) block (omega arith) in
+    take-append-add block (replicate m 0) k ∙ ap (λ zeros. block ++ zeros) (take-replicate k m 0 fits)
+    ∙ sym (ap (λ n. take (length block + k) block ++ replicate n 0) rest ∙ ap (λ xs. xs ++ replicate k 0) whole)
+
+-- so many bytes from the front of a block with enough zeros behind it, where its length is n less some or more
+by_length : (n m : ℕ) (block : List ℕ) → n ≤ m → (length block < n) ⊎ (n ≤ length block) → take n (block ++ replicate m 0) ≡ padded n block
+by_length n m block fits (inr at_hand) = front_at_hand n m block at_hand
+by_length n m block fits (inl past) =
+    let k = n - length block in
+    let is : length block + k ≡ n = omega (arith, past) in
+    subst (λ j. take j (block ++ replicate m 0) ≡ padded j block) is (front_past k m block (omega (arith, fits)))
+
+pub front_padded : (n m : ℕ) (block : List ℕ) → n ≤ m → take n (block ++ replicate m 0) ≡ padded n block
+front_padded n m block fits = by_length n m block fits (cases_lt (length block) n)
+
+-- what is told as a header with a status that is not 0 is the header of the block that stands
+pub header_stands : (stands : Option (List ℕ)) (header : List ℕ) → header ≡ shown 0 20 (unwrap_or stands []) → number_at 0 4 header ≢ 0 → Some header ≡ option_map (padded 20) stands
+header_stands None header is status = absurd (status (ap (number_at 0 4) is))
+header_stands (Some block) header is status = ap Some (is ∙ front_padded 20 20 block (omega arith))
+
+-- the header, and the bytes behind it
+pub joined_padded : (k : ℕ) (block : List ℕ) → padded 20 block ++ shown 20 k block ≡ padded (20 + k) block
+joined_padded k block =
+    let near : 20 ≤ 20 + k = omega arith in
+    let whole : 20 + k ≤ 20 + k = omega arith in
+    ap (λ front. front ++ shown 20 k block) (sym (front_padded 20 (20 + k) block near))
+    ∙ sym (take-add 20 k (block ++ replicate (20 + k) 0)) ∙ front_padded (20 + k) (20 + k) block whole
+
+-- bytes that are a header and what is read behind it are the front of the block that stands
+image_joined : (header bytes : List ℕ) (count : ℕ) (block : List ℕ) → header ≡ padded 20 block → 20 ≤ count → bytes ≡ header ++ shown 20 (count - 20) block → bytes ≡ padded count block
+image_joined header bytes count block head long is =
+    let size : 20 + (count - 20) ≡ count = omega (arith, long) in
+    is ∙ ap (λ front. front ++ shown 20 (count - 20) block) head ∙ joined_padded (count - 20) block ∙ ap (λ n. padded n block) size
+
+-- and they are what a buffer holds of them
+pub image_held : (header bytes items : List ℕ) (len count n : ℕ) (stands : Option (List ℕ)) → Some header ≡ option_map (padded 20) stands → 20 ≤ count → length bytes ≡ len → n ≡ count → bytes ≡ header ++ shown 20 (n - 20) (unwrap_or stands []) → take len (bytes ++ drop (length bytes) items) ≡ padded count (unwrap_or stands [])
+image_held header bytes items len count n None head long size same is = absurd (none-some header (sym head))
+image_held header bytes items len count n (Some block) head long size same is =
+    let front : header ≡ padded 20 block = ap (λ o. unwrap_or o []) head in
+    ap (λ k. take k (bytes ++ drop (length bytes) items)) (sym size) ∙ take-append_seam bytes (drop (length bytes) items)
+    ∙ image_joined header bytes count block front long (is ∙ ap (λ k. header ++ shown 20 (k - 20) block) same)

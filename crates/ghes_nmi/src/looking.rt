@@ -1,0 +1,116 @@
+//! The steps that look at a source: its status address register, the header of a block, and the rest of its image.
+ghost use Rattle.std.specs.Prelude.{◌≡◌, ◌≤◌, ◌+◌, ◌-◌, ◌++◌, [], length, Some, unwrap_or, IfOk, OnOk};
+ghost use Rattle.apei_base.specs.Bus.{reach_of, CountsFaults};
+ghost use Rattle.apei_base.specs.Firmware.{status_value, standing, area_bytes};
+ghost use Rattle.cper_block.specs.Image.{padded};
+ghost use Rattle.ghes_nmi.specs.Steps.{place_of, IsPlace, standing_header, accesses_behind};
+
+use crate::Receive;
+use apei_base::{BusFault, Firmware, copy_area, read_status, u32_at};
+use ghes_call::Buffer;
+use ghes_steps::Steps;
+use std::sync::ledger::Ledger;
+
+/// Reads the status address register whole, without shift or mask: the address of the block's area, or none where no block
+/// has stood yet.
+///
+/// One access. After Linux 6.1, drivers/acpi/apei/ghes.c.
+pub fn peek<P: Firmware, L: Ledger>(
+    receive: &Receive,
+    port: &mut P,
+    steps: &mut Steps<L>,
+) -> Result<Option<u64>, BusFault>
+    requires { reach_of receive.now.status ≡ (P.seen port.old).layout.status }
+    ensures value { IfOk result (λ place. place ≡ place_of (status_value (P.seen port.old))) }
+    ensures place { IfOk result (λ place. IsPlace (P.seen port.old) place) }
+    ensures kept { P.seen port.new ≡ P.seen port.old }
+    ensures count { CountsFaults result (P.faults port.old) (P.faults port.new) }
+    ensures cost { steps.new ≡ steps.old + 1 }
+{
+    steps.tick();
+    match read_status(port, &receive.status) {
+        Err(fault) => Err(fault),
+        Ok(0) => Ok(None),
+        Ok(address) => Ok(Some(address)),
+    }
+}
+
+/// Copies the header of the block at `address`, or none where no block stands: its block status is 0.
+///
+/// One access. After Linux 6.1, drivers/acpi/apei/ghes.c.
+pub fn read_header<P: Firmware, L: Ledger>(
+    address: u64,
+    port: &mut P,
+    steps: &mut Steps<L>,
+) -> Result<Option<[u8; 20]>, BusFault>
+    requires at { address ≡ (P.seen port.old).layout.area }
+    requires within { 20 ≤ (P.seen port.old).layout.room }
+    ensures value { IfOk result (λ header. header ≡ standing_header (P.seen port.old)) }
+    ensures kept { P.seen port.new ≡ P.seen port.old }
+    ensures count { CountsFaults result (P.faults port.old) (P.faults port.new) }
+    ensures cost { steps.new ≡ steps.old + 1 }
+{
+    let mut header = [0u8; 20];
+    steps.tick();
+    match copy_area(port, address, 0, &mut header) {
+        Err(fault) => Err(fault),
+        Ok(()) if u32_at(&header, 0) == 0 => Ok(None),
+        Ok(()) => Ok(Some(header)),
+    }
+}
+
+// Writes the header to the front of the bytes, and copies what is behind it there into the rest, if there is a rest.
+fn join<P: Firmware, L: Ledger>(
+    address: u64,
+    header: &[u8; 20],
+    bytes: &mut [u8],
+    port: &mut P,
+    steps: &mut Steps<L>,
+) -> Result<(), BusFault>
+    requires at { address ≡ (P.seen port.old).layout.area }
+    requires within { length bytes.old ≤ (P.seen port.old).layout.room }
+    requires whole { 20 ≤ length bytes.old }
+    ensures value { OnOk result
+        (bytes.new ≡ header.now ++ area_bytes 20 (length bytes.old - 20) (P.seen port.old)) }
+    ensures size { length bytes.new ≡ length bytes.old }
+    ensures kept { P.seen port.new ≡ P.seen port.old }
+    ensures count { CountsFaults result (P.faults port.old) (P.faults port.new) }
+    ensures cost { steps.new ≡ steps.old + accesses_behind (length bytes.old) }
+{
+    let (front, rest) = bytes.split_at_mut(20);
+    front.copy_from_slice(header);
+    if rest.is_empty() {
+        return Ok(());
+    }
+    steps.tick();
+    copy_area(port, address, 20, rest)
+}
+
+/// Copies what is behind the header of the block at `address` into the buffer, whose bytes are the image from then on: the
+/// header, and the rest up to `count` bytes.
+///
+/// One access where the block is longer than its header, and else none.
+/// After Linux 6.1, drivers/acpi/apei/ghes.c.
+pub fn read_rest<P: Firmware, L: Ledger>(
+    address: u64,
+    header: &[u8; 20],
+    count: usize,
+    image: &mut Buffer,
+    port: &mut P,
+    steps: &mut Steps<L>,
+) -> Result<(), BusFault>
+    requires at { address ≡ (P.seen port.old).layout.area }
+    requires within { count ≤ (P.seen port.old).layout.room }
+    requires whole { 20 ≤ count }
+    requires room { count ≤ image.old.room }
+    requires header { Some header.now ≡ standing_header (P.seen port.old) }
+    ensures value { OnOk result
+        (image.new.bytes ≡ padded count (unwrap_or (standing (P.seen port.old)) [])) }
+    ensures room { image.old.room ≤ image.new.room }
+    ensures kept { P.seen port.new ≡ P.seen port.old }
+    ensures count { CountsFaults result (P.faults port.old) (P.faults port.new) }
+    ensures cost { steps.new ≡ steps.old + accesses_behind count }
+{
+    image.set_len(count);
+    join(address, header, image.0.as_mut_slice(), port, steps)
+}
