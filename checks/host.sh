@@ -41,6 +41,7 @@ fi
 expect "a missing file" 5 "ghes: read $folder/none: 1 failed" replay "$folder/none" - "$data/script"
 expect "a folder" 5 "ghes: read $folder: 1 failed" replay "$folder" - "$data/script"
 expect "a file of the kernel, whose size says nothing" 3 "ghes: hest: 1 table: 2 signature" replay /proc/version - "$data/script"
+expect "words that are no text" 2 "ghes: usage: replay HEST EINJ SCRIPT | check HEST EINJ | decode BLOCK | load N" check $'\xff' -
 expect "no words" 2 "ghes: usage: replay HEST EINJ SCRIPT | check HEST EINJ | decode BLOCK | load N"
 cp "$data/hest.bin" "$folder/secret" && chmod 000 "$folder/secret"
 if [ -r "$folder/secret" ]; then

@@ -6,6 +6,7 @@ use Rattle.fault_plan.specs.Plan.{Calls, no_calls, fails_next}
 use Rattle.ghes_outside.specs.declared.files.LoadError.{LoadError}
 use Rattle.ghes_outside.specs.declared.files.LoadError.TheVariants.{Failed}
 use Rattle.ghes_outside.specs.Loads.{names_in, told_answer}
+use Rattle.ghes_outside.specs.Outside.{FilesSeen}
 use Rattle.ghes_outside.specs.declared.mem_files.MemFiles.{MemFiles}
 
 -- what the file of a name holds, where there is one (own choice)
@@ -27,6 +28,10 @@ faults_of files = files.faults
 -- the numbered loads (own choice)
 abbrev pub calls_of : MemFiles → Calls
 calls_of files = files.plan
+
+-- what the files tell, which is all (own choice)
+abbrev pub files_told : MemFiles → FilesSeen
+files_told files = record { contents = contents_of files; failed = failed_of files; faults = faults_of files }
 
 -- what a load answers where there is memory: first whether it is to fail (own choice)
 abbrev pub load_answer : MemFiles → List ℕ → ℕ → Result (Unit {0}) LoadError

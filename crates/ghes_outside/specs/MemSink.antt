@@ -1,5 +1,6 @@
 -- What an output in memory holds, and what one put changes.
-use Rattle.std.specs.Prelude.{◌≤◌, ◌+◌, ◌-◌, ◌^◌, ◌++◌, ◌||◌, ℕ, Bool, List, [], length, min, nat_lt, Option, Some}
+use Rattle.std.specs.Prelude.{◌≤◌, ◌+◌, ◌-◌, ◌^◌, ◌++◌, ◌||◌, ℕ, Bool, List, [], length, min, nat_lt, Some}
+use Rattle.ghes_outside.specs.Outside.{SinkSeen}
 use Rattle.fault_plan.specs.Plan.{Calls, no_calls, with_call, fails_next}
 
 -- the bytes that were taken, the room for all of them, the numbered puts, and how often one has failed (own choice)
@@ -15,8 +16,8 @@ pub record IsWithinRoom (len room capacity : ℕ) : Type 0 where
   pub held : room ≤ capacity
 
 -- all bytes that were taken are told (own choice)
-abbrev pub told_by : SinkState → Option (List ℕ)
-told_by sink = Some sink.taken
+abbrev pub told_by : SinkState → SinkSeen
+told_by sink = record { written = Some sink.taken; faults = sink.faulted }
 
 -- an output that took nothing yet (own choice)
 abbrev pub empty_sink : ℕ → List ℕ → SinkState

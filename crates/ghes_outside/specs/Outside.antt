@@ -4,6 +4,17 @@ use Rattle.std.specs.Option.{option_map}
 use Rattle.ghes_outside.specs.declared.files.LoadError.{LoadError}
 use Rattle.ghes_outside.specs.declared.files.LoadError.TheVariants.{Failed, TooLong, OutOfMemory}
 
+-- what files tell: their contents by name, the names whose load failed, the oldest first, and how often a load failed
+pub record FilesSeen : Type 0 where
+  pub contents : List ℕ → Option (List ℕ)
+  pub failed : Option (List (List ℕ))
+  pub faults : ℕ
+
+-- what an output tells: the bytes that it took, and how often a put failed
+pub record SinkSeen : Type 0 where
+  pub written : Option (List ℕ)
+  pub faults : ℕ
+
 -- The count of faults rose, or stands at its last value, 2 ^ 64 - 1 (own choice).
 abbrev pub Rose : ℕ → ℕ → Type 0
 Rose before now = min (before + 1) (2 ^ 64 - 1) ≤ now

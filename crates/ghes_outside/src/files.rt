@@ -1,5 +1,6 @@
-ghost use Rattle.std.specs.Prelude.{◌≡◌, ◌≤◌, ℕ, List, [], Option, Err, IsErrOf, OnOk, OnErr, vec_len};
-ghost use Rattle.ghes_outside.specs.Outside.{Rose, Agrees, IsLonger, names_after};
+//! Files that are loaded whole, and why one is not.
+ghost use Rattle.std.specs.Prelude.{◌≡◌, ◌≢◌, ◌≤◌, ℕ, List, [], Err, IsErrOf, OnOk, OnErr, vec_len};
+ghost use Rattle.ghes_outside.specs.Outside.{FilesSeen, Rose, Agrees, IsLonger, names_after};
 
 use std::alloc::{AllocError, AllocFailed};
 
@@ -35,26 +36,20 @@ impl<T: Drop> From<AllocFailed<T>> for LoadError {
 
 /// Files that are loaded whole, by name.
 pub trait Files {
-    /// What a file holds, by its name, where that is told.
-    ghost contents: { Self → List ℕ → Option (List ℕ) };
-
-    /// The names whose load failed, the oldest first, where they are told.
-    ghost failed: { Self → Option (List (List ℕ)) };
-
-    /// How often a load has failed. It stays at 2^64 - 1 once it is there.
-    ghost faults: { Self → ℕ };
+    /// What the files tell, where they tell it. The count of failed loads stays at 2^64 - 1 once it is there.
+    ghost seen: { Self → FilesSeen };
 
     /// Loads a whole file of at most `limit` bytes in the place of what `into` held.
     fn load(&mut self, name: &str, into: &mut Vec<u8>, limit: usize) -> Result<(), LoadError>
-        ensures ok { OnOk result (Agrees (contents self.old name.now) into.new.items) }
+        ensures ok { OnOk result (Agrees ((seen self.old).contents name.now) into.new.items) }
         ensures within { OnOk result (vec_len into.new ≤ limit) }
         ensures err { OnErr result (into.new.items ≡ []) }
 
-        ensures failed { IsErrOf result LoadError.Failed → Rose (faults self.old) (faults self.new) }
-        ensures too_long { IsErrOf result LoadError.TooLong → IsLonger (contents self.old name.now) limit }
-        ensures no_fault { IsErrOf result LoadError.TooLong → faults self.new ≡ faults self.old }
-        ensures names { failed self.new ≡ names_after result name.now (failed self.old) }
+        ensures failed { IsErrOf result LoadError.Failed → Rose (seen self.old).faults (seen self.new).faults }
+        ensures too_long { IsErrOf result LoadError.TooLong → IsLonger ((seen self.old).contents name.now) limit }
+        ensures unfailed { result ≢ Err LoadError.Failed → (seen self.new).faults ≡ (seen self.old).faults }
+        ensures names { (seen self.new).failed ≡ names_after result name.now (seen self.old).failed }
 
-        ensures contents { (other : List ℕ) → contents self.new other ≡ contents self.old other }
-        ensures grows { faults self.old ≤ faults self.new };
+        ensures contents { (other : List ℕ) → (seen self.new).contents other ≡ (seen self.old).contents other }
+        ensures grows { (seen self.old).faults ≤ (seen self.new).faults };
 }

@@ -1,3 +1,4 @@
+//! The files of the machine.
 ghost use Rattle.std.specs.Prelude.{◌≡◌, ◌≢◌, ◌≤◌, ◌<◌, ◌-◌, ◌^◌, [], IsErrOf, OnOk, OnErr, vec_len};
 ghost use Rattle.ghes_outside.specs.Outside.{Agrees, IsLonger};
 
@@ -27,14 +28,9 @@ impl<R> HostFiles<R> {
 }
 
 impl<R: std::rt::Files> Files for HostFiles<R> {
-    ghost use Rattle.std.specs.Prelude.{None};
-    ghost use Rattle.ghes_outside.specs.Host.{load_faults};
+    ghost use Rattle.ghes_outside.specs.Host.{files_of_host};
 
-    ghost contents = { λ _ _. None };
-
-    ghost failed = { λ _. None };
-
-    ghost faults = { load_faults };
+    ghost seen = { files_of_host };
 
     /// Reads to the end of the file, and at most one byte past the limit.
     ///

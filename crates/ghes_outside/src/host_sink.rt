@@ -1,3 +1,4 @@
+//! The standard output of the process.
 ghost use Rattle.std.specs.Prelude.{OnOk};
 ghost use Rattle.std.specs.Io.KnownBytes.{Appends};
 
@@ -27,12 +28,9 @@ impl<R> HostSink<R> {
 }
 
 impl<R: Print> Sink for HostSink<R> {
-    ghost use Rattle.std.specs.Prelude.{None};
-    ghost use Rattle.ghes_outside.specs.Host.{put_faults};
+    ghost use Rattle.ghes_outside.specs.Host.{sink_of_host};
 
-    ghost written = { λ _. None };
-
-    ghost faults = { put_faults };
+    ghost seen = { sink_of_host };
 
     /// Hands all the bytes to the system before it returns, so that a full device is seen in this call.
     ///

@@ -1,3 +1,4 @@
+//! Files in memory.
 ghost use Rattle.std.specs.Prelude.{◌≡◌, ◌≢◌, ◌≤◌, ◌++◌, [], ◌∷◌, ℕ, List, map, string_bytes, Some, IsErrOf, IfOk, OnOk, OnErr, vec_len};
 ghost use Rattle.ghes_outside.specs.Outside.{Rose, Agrees, IsLonger, names_after};
 ghost use Rattle.ghes_outside.specs.Loads.{names_in, told_answer, names_with, faults_with, faults_after};
@@ -48,14 +49,10 @@ impl MemFiles {
 }
 
 impl Files for MemFiles {
-    ghost use Rattle.ghes_outside.specs.MemFiles.{contents_of, failed_of, faults_of, calls_of, load_answer};
+    ghost use Rattle.ghes_outside.specs.MemFiles.{files_told, contents_of, failed_of, faults_of, calls_of, load_answer};
     ghost use Rattle.fault_plan.specs.Plan.{with_call};
 
-    ghost contents = { contents_of };
-
-    ghost failed = { failed_of };
-
-    ghost faults = { faults_of };
+    ghost seen = { files_told };
 
     /// Fails where this load is to fail, then where there is no file of that name, and then refuses one that is
     /// too long. Where there is no memory to note the name of a failed load, the answer is `OutOfMemory`.
@@ -66,7 +63,7 @@ impl Files for MemFiles {
 
         ensures failed { IsErrOf result LoadError.Failed → Rose (faults_of self.old) (faults_of self.new) }
         ensures too_long { IsErrOf result LoadError.TooLong → IsLonger (contents_of self.old name.now) limit }
-        ensures no_fault { IsErrOf result LoadError.TooLong → faults_of self.new ≡ faults_of self.old }
+        ensures unfailed { result ≢ Err LoadError.Failed → faults_of self.new ≡ faults_of self.old }
         ensures names { failed_of self.new ≡ names_after result name.now (failed_of self.old) }
 
         ensures contents { (other : List ℕ) → contents_of self.new other ≡ contents_of self.old other }

@@ -1,3 +1,4 @@
+//! An output in memory.
 ghost use Rattle.std.specs.Prelude.{◌≡◌, ◌≤◌, ◌↔◌, IfOk, IsErr, IsTrue, OnOk, OnErr};
 ghost use Rattle.ghes_outside.specs.Outside.{Rose, Appends, AppendsFront};
 
@@ -55,16 +56,14 @@ impl MemSink {
 impl Sink for MemSink {
     ghost use Rattle.ghes_outside.specs.MemSink.{told_by, refuses, after_put, after_refusal};
 
-    ghost written = { told_by };
-
-    ghost faults = { λ s. s.faulted };
+    ghost seen = { told_by };
 
     /// Refuses a put that is to fail, and then one that would pass the room. A refused put writes nothing.
     ///
     /// It takes no memory.
     fn put(&mut self, bytes: &[u8]) -> Result<(), PutFailed>
-        ensures ok { OnOk result (Appends (told_by self.old) (told_by self.new) bytes.now) }
-        ensures err { OnErr result (AppendsFront (told_by self.old) (told_by self.new) bytes.now) }
+        ensures ok { OnOk result (Appends (told_by self.old).written (told_by self.new).written bytes.now) }
+        ensures err { OnErr result (AppendsFront (told_by self.old).written (told_by self.new).written bytes.now) }
         ensures cause { OnErr result (Rose self.old.faulted self.new.faulted) }
         ensures grows { self.old.faulted ≤ self.new.faulted }
 

@@ -1,3 +1,4 @@
+//! Files and outputs, in memory and of the machine.
 use super::{Files, HostFiles, HostSink, LoadError, MemFiles, MemSink, PutFailed, Sink};
 use std::fmt::Display;
 use std::io::ErrorKind;
@@ -5,72 +6,50 @@ use std::test::Fail;
 use std::{fs, io};
 
 #[test]
-fn a_file_in_memory_is_loaded_up_to_its_limit(rt: HostRuntime) -> Result<(), Fail> {
-    const CASES: [(&str, usize, Result<(), LoadError>, &[u8]); 5] = [
+fn files_in_memory_are_loaded_up_to_a_limit_and_fail_as_planned(
+    rt: HostRuntime,
+) -> Result<(), Fail> {
+    // The name, the limit, and what comes. The second and the seventh load fail.
+    const CASES: [(&str, usize, Result<(), LoadError>, &[u8]); 8] = [
         ("a", 3, Ok(()), b"abc"),
+        ("a", 3, Err(LoadError::Failed), b""),
         ("a", 2, Err(LoadError::TooLong), b""),
         ("a", 4, Ok(()), b"abc"),
         ("b", 0, Ok(()), b""),
         ("c", 9, Err(LoadError::Failed), b""),
+        ("a", 3, Err(LoadError::Failed), b""),
+        ("a", 3, Ok(()), b"abc"),
     ];
-    let mut files = MemFiles::new(rt.alloc(), &[])?;
+    let mut files = MemFiles::new(rt.alloc(), &[2, 7])?;
     files.add("a", b"old")?;
     files.add("b", b"")?;
     files.add("a", b"abc")?;
-    for (name, limit, outcome, bytes) in CASES {
+    for (number, (name, limit, outcome, bytes)) in CASES.iter().enumerate() {
         let mut into = b"before".to_vec(rt.alloc())?;
         assert_eq!(rt;
-            files.load(name, &mut into, limit),
-            outcome,
-            "{name} at {limit}"
+            files.load(name, &mut into, *limit),
+            *outcome,
+            "load {number}"
         );
-        assert_eq!(rt; into.as_slice(), bytes, "{name} at {limit}");
+        assert_eq!(rt; into.as_slice(), *bytes, "load {number}");
     }
     Ok(())
 }
 
 #[test]
-fn a_load_fails_where_its_number_is_planned_and_the_next_goes_on(
-    rt: HostRuntime,
-) -> Result<(), Fail> {
-    let mut files = MemFiles::new(rt.alloc(), &[2, 4])?;
-    files.add("a", b"abc")?;
-    let mut into = Vec::new(rt.alloc());
-    for (number, outcome) in [
-        (1, Ok(())),
-        (2, Err(LoadError::Failed)),
-        (3, Ok(())),
-        (4, Err(LoadError::Failed)),
-        (5, Ok(())),
+fn an_output_in_memory_takes_what_fits_and_fails_as_planned(rt: HostRuntime) -> Result<(), Fail> {
+    // The room, what the puts of "abc", "de" and "f" answer, and what was taken. The third put fails.
+    for (room, second, third, bytes) in [
+        (6, Ok(()), Err(PutFailed), b"abcde".as_slice()),
+        (5, Ok(()), Err(PutFailed), b"abcde".as_slice()),
+        (4, Err(PutFailed), Err(PutFailed), b"abc".as_slice()),
     ] {
-        assert_eq!(rt; files.load("a", &mut into, 3), outcome, "load {number}");
-        let length = if outcome == Ok(()) { 3 } else { 0 };
-        assert_eq!(rt; into.len(), length, "load {number}");
-    }
-    Ok(())
-}
-
-#[test]
-fn an_output_in_memory_takes_what_its_room_takes(rt: HostRuntime) -> Result<(), Fail> {
-    for (room, outcome, bytes) in [
-        (5, Ok(()), b"abcde".as_slice()),
-        (4, Err(PutFailed), b"abc".as_slice()),
-    ] {
-        let mut sink = MemSink::new(rt.alloc(), room, &[])?;
+        let mut sink = MemSink::new(rt.alloc(), room, &[3])?;
         assert_eq!(rt; sink.put(b"abc"), Ok(()), "room {room}");
-        assert_eq!(rt; sink.put(b"de"), outcome, "room {room}");
+        assert_eq!(rt; sink.put(b"de"), second, "room {room}");
+        assert_eq!(rt; sink.put(b"f"), third, "room {room}");
         assert_eq!(rt; sink.written(), bytes, "room {room}");
     }
-    Ok(())
-}
-
-#[test]
-fn a_put_that_fails_writes_nothing_and_the_next_goes_on(rt: HostRuntime) -> Result<(), Fail> {
-    let mut sink = MemSink::new(rt.alloc(), 9, &[2])?;
-    assert_eq!(rt; sink.put(b"ab"), Ok(()));
-    assert_eq!(rt; sink.put(b"cd"), Err(PutFailed));
-    assert_eq!(rt; sink.put(b"ef"), Ok(()));
-    assert_eq!(rt; sink.written(), b"abef".as_slice());
     Ok(())
 }
 
@@ -80,50 +59,29 @@ const LONG: usize = 300_000;
 #[test]
 fn a_file_of_the_machine_is_loaded_up_to_its_limit(rt: HostRuntime) -> Result<(), Fail> {
     let path = "loaded_up_to_its_limit.bin";
-    let mut bytes = Vec::new(rt.alloc());
-    for number in 0..LONG {
-        bytes.push((number % 251) as u8)?;
-    }
+    let bytes = vec![in rt.alloc(); 7u8; LONG]?;
     fs::write(&rt, path, bytes.as_slice())?;
     let mut files = HostFiles::new(&rt);
-    for (limit, outcome, length) in [
-        (LONG, Ok(()), LONG),
-        (LONG - 1, Err(LoadError::TooLong), 0),
-        (LONG + 1, Ok(()), LONG),
-        (0, Err(LoadError::TooLong), 0),
-        (usize::MAX, Ok(()), LONG),
+    for (name, limit, outcome, length) in [
+        (path, LONG, Ok(()), LONG),
+        (path, LONG - 1, Err(LoadError::TooLong), 0),
+        (path, usize::MAX, Ok(()), LONG),
+        ("no_file_of_this_name", 9, Err(LoadError::Failed), 0),
+        (".", 9, Err(LoadError::Failed), 0),
+        ("nul\0inside", 9, Err(LoadError::Failed), 0),
+        ("", 9, Err(LoadError::Failed), 0),
     ] {
         let mut into = b"before".to_vec(rt.alloc())?;
-        assert_eq!(rt; files.load(path, &mut into, limit), outcome, "at {limit}");
-        assert!(rt;
-            into.as_slice() == bytes.as_slice() || length == 0,
-            "at {limit}"
+        assert_eq!(rt;
+            files.load(name, &mut into, limit),
+            outcome,
+            "{name:?} at {limit}"
         );
-        assert_eq!(rt; into.len(), length, "at {limit}");
+        assert_eq!(rt; into.len(), length, "{name:?} at {limit}");
+        assert!(rt; into.iter().all(|byte| *byte == 7), "{name:?} at {limit}");
     }
     fs::remove_file(&rt, path)?;
     Ok(())
-}
-
-#[test]
-fn no_file_and_a_folder_are_failures(rt: HostRuntime) -> Result<(), Fail> {
-    let mut files = HostFiles::new(&rt);
-    for path in ["no_file_of_this_name", ".", "nul\0inside", ""] {
-        let mut into = b"before".to_vec(rt.alloc())?;
-        assert_eq!(rt;
-            files.load(path, &mut into, 9),
-            Err(LoadError::Failed),
-            "at {path:?}"
-        );
-        assert!(rt; into.is_empty(), "at {path:?}");
-    }
-    Ok(())
-}
-
-#[test]
-fn the_standard_output_takes_a_line(rt: HostRuntime) {
-    let mut sink = HostSink::new(&rt);
-    assert_eq!(rt; sink.put(b"one line\n"), Ok(()));
 }
 
 // An output whose device is full.
@@ -145,7 +103,7 @@ impl Print for Full {
 }
 
 #[test]
-fn a_put_to_a_full_device_fails_in_that_call(rt: HostRuntime) {
-    let mut sink = HostSink::new(Full);
-    assert_eq!(rt; sink.put(b"one line\n"), Err(PutFailed));
+fn the_standard_output_takes_a_line_and_a_full_device_none(rt: HostRuntime) {
+    assert_eq!(rt; HostSink::new(&rt).put(b"one line\n"), Ok(()));
+    assert_eq!(rt; HostSink::new(Full).put(b"one line\n"), Err(PutFailed));
 }

@@ -1,124 +1,132 @@
 -- What follows from how a run ends: what is accepted is done, and what is refused gets its status.
-use Rattle.std.proofs.Common.{◌≡◌, ◌<◌, ◌⊎◌, ℕ, List, Option, None, inl, inr, refl, sym, ap, subst, ◌∙◌, arith}
+use Rattle.std.proofs.Common.{◌≡◌, ◌<◌, ◌⊎◌, ℕ, Bool, true, false, List, [], Option, None, inl, inr, refl, sym, ap, subst, ◌∙◌, arith}
+use Rattle.std.specs.Prelude.{IsTrue, if◌then◌else◌}
+use Rattle.ghes_outside.specs.Outside.{FilesSeen, SinkSeen, Rose}
+use Rattle.ghes_outside.specs.declared.files.LoadError.TheVariants as loads
 use Rattle.ghes_replay.specs.declared.exit.Refusal.{Refusal}
 use Rattle.ghes_replay.specs.declared.exit.Refusal.TheVariants as refusals
+use Rattle.ghes_replay.specs.declared.run.RunEnd.{RunEnd}
+use Rattle.ghes_replay.specs.Done.{output, IsDone, TaskCause, done_status, has_fatal}
 use Rattle.ghes_serial.specs.Kept.{Kept}
-use Rattle.ghes_replay.specs.Refusal.{status_of, line_of, refused_word}
-use Rattle.ghes_replay.specs.Seen.{FilesSeen, SinkSeen}
+use Rattle.ghes_replay.specs.Loading.{CountsFailed}
+use Rattle.ghes_replay.specs.Refusal.{status_of, line_of, refused_name}
+use Rattle.ghes_replay.specs.Run.{AskNothing, EndsBy, EndsTask, IsUnlessFault, PutsLine, PutsText, RefusedBy, WasPut, bare_end, done_end, is_status}
+use Rattle.ghes_replay.specs.Seen.{Outside, NoneFailed}
 use Rattle.ghes_replay.specs.Task.{Task, Replay, Check, Decode, IsTask}
-use Rattle.ghes_replay.specs.Run.{IsDone, TaskCause, Cause, WasPut, RefusedBy, EndsBy, PutsText, IsUnlessFault, done_status}
 use Rattle.ghes_replay.specs.Told.{HasBadTable, HasUnserved, HasBadScript, IsAccepted}
+use Rattle.ghes_replay.proofs.LoadLemmas.{none_in}
 use Rattle.ghes_replay.proofs.TaskLemmas.{only_memory, not_done, table_refused, unserved_not_done, unserved_refused, script_not_done, script_refused}
 
+-- want of memory refuses each task
+memory_cause : (before after : FilesSeen) (task : Task) → TaskCause before after task refusals.OutOfMemory
+memory_cause before after (Replay hest script) = inl tt
+memory_cause before after (Check hest einj) = inl tt
+memory_cause before after (Decode block) = tt
+
+-- a refusal with its cause was put, or want of memory
+pub refused_ends : (task : Task) (before after : Outside) (refusal : Refusal) (name : List ℕ) (end : RunEnd) → name ≡ refused_name task refusal → TaskCause before.files after.files task refusal → CountsFailed before.files after.files refusal → RefusedBy before.out after.out name refusal end → EndsTask task before after end
+refused_ends task before after refusal name end same cause counted (inl put) =
+    let P : List ℕ → Type 0 = λ text. PutsLine before.out after.out text refusal end in
+    inr (refusal, cause, counted, subst P same put)
+refused_ends task before after refusal name end same cause counted (inr put) = inr (refusals.OutOfMemory, memory_cause before.files after.files task, tt, put)
+
 -- the words ask for one task
-pub same_task : (words : List (List ℕ)) (task task' : Task) → IsTask words task → IsTask words task' → task ≡ task'
+same_task : (words : List (List ℕ)) (task task' : Task) → IsTask words task → IsTask words task' → task ≡ task'
 same_task words (Replay hest script) (Replay hest' script') is is' = cc
 same_task words (Replay hest script) (Check hest' einj') is is' = cc
+same_task words (Replay hest script) (Decode block') is is' = cc
 same_task words (Check hest einj) (Replay hest' script') is is' = cc
 same_task words (Check hest einj) (Check hest' einj') is is' = cc
+same_task words (Check hest einj) (Decode block') is is' = cc
 same_task words (Decode block) (Replay hest' script') is is' = cc
 same_task words (Decode block) (Check hest' einj') is is' = cc
 same_task words (Decode block) (Decode block') is is' = cc
-same_task words (Replay hest script) (Decode block') is is' = cc
-same_task words (Check hest einj) (Decode block') is is' = cc
 
--- the cause of a run that is refused for an asked task, or the words ask for none
-pub cause_of_task : (words : List (List ℕ)) (before after : FilesSeen) (task : Task) (refusal : Refusal) → IsTask words task → Cause words before after refusal → TaskCause before after task refusal
-cause_of_task words before after task refusals.Usage asked cause = absurd (cause task asked)
-cause_of_task words before after (Replay hest script) refusals.OutOfMemory asked cause = tt
-cause_of_task words before after (Check hest einj) refusals.OutOfMemory asked cause = tt
-cause_of_task words before after (Decode block) refusals.OutOfMemory asked cause = tt
-cause_of_task words before after task (refusals.Load file why) asked (task', asked', cause) =
-    let P : Task → Type 0 = λ t. TaskCause before after t (refusals.Load file why) in
-    subst P (same_task words task' task asked' asked) cause
-cause_of_task words before after task (refusals.Hest error) asked (task', asked', cause) =
-    let P : Task → Type 0 = λ t. TaskCause before after t (refusals.Hest error) in
-    subst P (same_task words task' task asked' asked) cause
-cause_of_task words before after task (refusals.Einj error) asked (task', asked', cause) =
-    let P : Task → Type 0 = λ t. TaskCause before after t (refusals.Einj error) in
-    subst P (same_task words task' task asked' asked) cause
-cause_of_task words before after task refusals.NotBuilt asked (task', asked', cause) =
-    let P : Task → Type 0 = λ t. TaskCause before after t refusals.NotBuilt in
-    subst P (same_task words task' task asked' asked) cause
-cause_of_task words before after task (refusals.Script line) asked (task', asked', cause) =
-    let P : Task → Type 0 = λ t. TaskCause before after t (refusals.Script line) in
-    subst P (same_task words task' task asked' asked) cause
-
--- what was done is the asked task
-done_of_task : (words : List (List ℕ)) (before : FilesSeen) (task task' : Task) (kept : Option Kept) (text : List ℕ) → IsTask words task → IsTask words task' → IsDone before task' kept text → IsDone before task kept text
-done_of_task words before task task' kept text asked asked' done =
-    let P : Task → Type 0 = λ t. IsDone before t kept text in
-    subst P (same_task words task' task asked' asked) done
-
--- an accepted run ends with the status of what was done, or with 7
-pub is_complete : (words : List (List ℕ)) (before after : FilesSeen) (sink_before sink_after : SinkSeen) (status : ℕ) (ledger : Option Kept) → EndsBy words before after sink_before sink_after status ledger → IsAccepted words before after sink_before sink_after → (status ≡ done_status ledger) ⊎ (status ≡ 7)
-is_complete words before after sink_before sink_after status ledger (inl (kept, text, done, (same, put))) a = elim put [
-  | inl whole ↦ inl (whole.0 ∙ ap done_status (sym same))
-  | inr cut ↦ absurd (a.no_failed_put cut.1)
-]
-is_complete words before after sink_before sink_after status ledger (inr (refusal, cause, (same, put))) a = elim put [
-  | inl whole ↦ inr (whole.0 ∙ only_memory before after a.task refusal a.no_failed_load a.accepted (cause_of_task words before after a.task refusal a.asked cause))
-  | inr cut ↦ absurd (a.no_failed_put cut.1)
-]
-
--- a refusal with its cause was put, or want of memory
-pub refused_ends : (words : List (List ℕ)) (before after : FilesSeen) (sink_before sink_after : SinkSeen) (name : List ℕ) (refusal : Refusal) (status : ℕ) (ledger : Option Kept) → line_of name refusal ≡ line_of (refused_word words refusal) refusal → Cause words before after refusal → RefusedBy sink_before sink_after name refusal status ledger → EndsBy words before after sink_before sink_after status ledger
-refused_ends words before after sink_before sink_after name refusal status ledger same cause (inl put) =
-    let P : List ℕ → Type 0 = λ text. WasPut sink_before sink_after text (status_of refusal) None status ledger in
-    inr (refusal, cause, subst P same put)
-refused_ends words before after sink_before sink_after name refusal status ledger same cause (inr put) = inr (refusals.OutOfMemory, tt, put)
+-- a run of words that ask for a task ends as one of that task
+of_task : (words : List (List ℕ)) (task : Task) (before after : Outside) (end : RunEnd) → IsTask words task → EndsBy words before after end → EndsTask task before after end
+of_task words task before after end asked (inl (task', asked', ends)) =
+    let P : Task → Type 0 = λ t. EndsTask t before after end in
+    subst P (same_task words task' task asked' asked) ends
+of_task words task before after end asked (inr (nothing, ends)) = absurd (nothing task asked)
 
 -- what was put with a status ended with it, or with 6
-pub status_put : (before after : SinkSeen) (text : List ℕ) (status end_status : ℕ) (ledger end_ledger : Option Kept) → WasPut before after text status ledger end_status end_ledger → (end_status ≡ status) ⊎ (end_status ≡ 6)
-status_put before after text status end_status ledger end_ledger (same, put) = elim put [
-  | inl whole ↦ inl whole.0
-  | inr cut ↦ inr cut.0
-]
+status_put : (before after : SinkSeen) (text : List ℕ) (wanted end : RunEnd) → WasPut before after text wanted end → (end.status ≡ wanted.status) ⊎ (end.status ≡ 6)
+status_put before after text wanted end (same, inl whole) = inl whole.0
+status_put before after text wanted end (same, inr cut) = inr cut.0
+
+-- status 6 is of a put that failed
+rose_at_6 : (before after : SinkSeen) (text : List ℕ) (wanted end : RunEnd) → (wanted.status ≡ 6 → ⊥) → WasPut before after text wanted end → end.status ≡ 6 → Rose before.faults after.faults
+rose_at_6 before after text wanted end never (same, inl whole) six = absurd (never (sym whole.0 ∙ six))
+rose_at_6 before after text wanted end never (same, inr cut) six = cut.1
 
 -- a refusal with this status, or want of memory
-unless_fault : (name : List ℕ) (before after : SinkSeen) (refusal : Refusal) (expected end_status : ℕ) (end_ledger : Option Kept) → (status_of refusal ≡ expected) ⊎ (status_of refusal ≡ 7) → WasPut before after (line_of name refusal) (status_of refusal) None end_status end_ledger → IsUnlessFault end_status expected
-unless_fault name before after refusal expected end_status end_ledger which put = elim (status_put before after (line_of name refusal) (status_of refusal) end_status None end_ledger put) [
-  | inl e ↦ elim which [ inl is ↦ inl (e ∙ is) | inr memory ↦ inr (inr (e ∙ memory)) ]
-  | inr cut ↦ inr (inl cut)
-]
+unless_fault : (name : List ℕ) (before after : SinkSeen) (refusal : Refusal) (expected : ℕ) (end : RunEnd) → (status_of refusal ≡ expected) ⊎ (status_of refusal ≡ 7) → PutsLine before after name refusal end → IsUnlessFault end.status expected
+unless_fault name before after refusal expected end which (same, inl whole) = elim which [ inl is ↦ inl (whole.0 ∙ is) | inr memory ↦ inr (inr (whole.0 ∙ memory)) ]
+unless_fault name before after refusal expected end which (same, inr cut) = inr (inl cut.0)
 
 -- words that ask for nothing are refused as such
-words_refused : (words : List (List ℕ)) (before after : FilesSeen) (refusal : Refusal) → ((task : Task) → IsTask words task → ⊥) → Cause words before after refusal → (status_of refusal ≡ 2) ⊎ (status_of refusal ≡ 7)
-words_refused words before after refusals.Usage none cause = inl refl
-words_refused words before after refusals.OutOfMemory none cause = inr refl
-words_refused words before after (refusals.Load file why) none cause = absurd (none cause.0 cause.1)
-words_refused words before after (refusals.Hest error) none cause = absurd (none cause.0 cause.1)
-words_refused words before after (refusals.Einj error) none cause = absurd (none cause.0 cause.1)
-words_refused words before after refusals.NotBuilt none cause = absurd (none cause.0 cause.1)
-words_refused words before after (refusals.Script line) none cause = absurd (none cause.0 cause.1)
+pub bad_words : (words : List (List ℕ)) (before after : Outside) (end : RunEnd) → EndsBy words before after end → AskNothing words → IsUnlessFault end.status 2
+bad_words words before after end (inl (task, asked, ends)) nothing = absurd (nothing task asked)
+bad_words words before after end (inr (none, (same, inl put))) nothing = unless_fault [] before.out after.out refusals.Usage 2 end (inl refl) put
+bad_words words before after end (inr (none, (same, inr put))) nothing = unless_fault [] before.out after.out refusals.OutOfMemory 2 end (inr refl) put
 
-pub bad_words : (words : List (List ℕ)) (before after : FilesSeen) (sink_before sink_after : SinkSeen) (status : ℕ) (ledger : Option Kept) → EndsBy words before after sink_before sink_after status ledger → ((task : Task) → IsTask words task → ⊥) → IsUnlessFault status 2
-bad_words words before after sink_before sink_after status ledger (inl (kept, text, done, put)) none = absurd (none done.0 done.1)
-bad_words words before after sink_before sink_after status ledger (inr (refusal, cause, put)) none =
-    unless_fault (refused_word words refusal) sink_before sink_after refusal 2 status ledger (words_refused words before after refusal none cause) put
+-- an accepted task ends with the status of what was done, or with 7
+complete_task : (words : List (List ℕ)) (before after : Outside) (end : RunEnd) (a : IsAccepted words before after) → EndsTask a.task before after end → (end.status ≡ done_status end.ledger) ⊎ (end.status ≡ 7)
+complete_task words before after end a (inl (done, is, none, (same, inl whole))) = inl (whole.0 ∙ ap done_status (sym same))
+complete_task words before after end a (inl (done, is, none, (same, inr cut))) = absurd (a.no_failed_put cut.1)
+complete_task words before after end a (inr (refusal, cause, counted, (same, inl whole))) =
+    inr (whole.0 ∙ only_memory before.files after.files a.task refusal a.no_failed_load a.accepted cause)
+complete_task words before after end a (inr (refusal, cause, counted, (same, inr cut))) = absurd (a.no_failed_put cut.1)
 
-pub bad_table : (words : List (List ℕ)) (before after : FilesSeen) (sink_before sink_after : SinkSeen) (status : ℕ) (ledger : Option Kept) → EndsBy words before after sink_before sink_after status ledger → HasBadTable words before after → IsUnlessFault status 3
-bad_table words before after sink_before sink_after status ledger (inl (kept, text, (task, asked, done), put)) b =
-    absurd (not_done before b.task kept text b.table (done_of_task words before b.task task kept text b.asked asked done))
-bad_table words before after sink_before sink_after status ledger (inr (refusal, cause, put)) b =
-    unless_fault (refused_word words refusal) sink_before sink_after refusal 3 status ledger
-    (table_refused before after b.task refusal b.no_failed_load b.table (cause_of_task words before after b.task refusal b.asked cause)) put
+pub is_complete : (words : List (List ℕ)) (before after : Outside) (end : RunEnd) → EndsBy words before after end → IsAccepted words before after → (end.status ≡ done_status end.ledger) ⊎ (end.status ≡ 7)
+is_complete words before after end ends a = complete_task words before after end a (of_task words a.task before after end a.asked ends)
 
-pub not_built : (words : List (List ℕ)) (before after : FilesSeen) (sink_before sink_after : SinkSeen) (status : ℕ) (ledger : Option Kept) → EndsBy words before after sink_before sink_after status ledger → HasUnserved words before after → IsUnlessFault status 3
-not_built words before after sink_before sink_after status ledger (inl (kept, text, (task, asked, done), put)) b =
-    absurd (unserved_not_done before b.hest b.script kept text b.table (done_of_task words before (Replay b.hest b.script) task kept text b.asked asked done))
-not_built words before after sink_before sink_after status ledger (inr (refusal, cause, put)) b =
-    unless_fault (refused_word words refusal) sink_before sink_after refusal 3 status ledger
-    (unserved_refused before after b.hest b.script refusal b.no_failed_load b.table (cause_of_task words before after (Replay b.hest b.script) refusal b.asked cause)) put
+-- a refused table
+table_task : (words : List (List ℕ)) (before after : Outside) (end : RunEnd) (b : HasBadTable words before.files after.files) → EndsTask b.task before after end → IsUnlessFault end.status 3
+table_task words before after end b (inl (done, is, none, put)) = absurd (not_done before.files b.task done b.table is)
+table_task words before after end b (inr (refusal, cause, counted, put)) =
+    unless_fault (refused_name b.task refusal) before.out after.out refusal 3 end (table_refused before.files after.files b.task refusal b.no_failed_load b.table cause) put
 
-pub bad_script : (words : List (List ℕ)) (before after : FilesSeen) (sink_before sink_after : SinkSeen) (status : ℕ) (ledger : Option Kept) → EndsBy words before after sink_before sink_after status ledger → HasBadScript words before after → IsUnlessFault status 4
-bad_script words before after sink_before sink_after status ledger (inl (kept, text, (task, asked, done), put)) b =
-    absurd (script_not_done words before after kept text b (done_of_task words before (Replay b.hest b.script) task kept text b.asked asked done))
-bad_script words before after sink_before sink_after status ledger (inr (refusal, cause, put)) b =
-    unless_fault (refused_word words refusal) sink_before sink_after refusal 4 status ledger
-    (script_refused words before after refusal b (cause_of_task words before after (Replay b.hest b.script) refusal b.asked cause)) put
+pub bad_table : (words : List (List ℕ)) (before after : Outside) (end : RunEnd) → EndsBy words before after end → HasBadTable words before.files after.files → IsUnlessFault end.status 3
+bad_table words before after end ends b = table_task words before after end b (of_task words b.task before after end b.asked ends)
 
--- no refusal ends with status 0 or 1
+-- a table that is not served
+unserved_task : (words : List (List ℕ)) (before after : Outside) (end : RunEnd) (b : HasUnserved words before.files after.files) → EndsTask (Replay b.hest b.script) before after end → IsUnlessFault end.status 3
+unserved_task words before after end b (inl (done, is, none, put)) = absurd (unserved_not_done before.files b.hest b.script done b.table is)
+unserved_task words before after end b (inr (refusal, cause, counted, put)) =
+    unless_fault (refused_name (Replay b.hest b.script) refusal) before.out after.out refusal 3 end
+    (unserved_refused before.files after.files b.hest b.script refusal b.no_failed_load b.table cause) put
+
+pub not_built : (words : List (List ℕ)) (before after : Outside) (end : RunEnd) → EndsBy words before after end → HasUnserved words before.files after.files → IsUnlessFault end.status 3
+not_built words before after end ends b = unserved_task words before after end b (of_task words (Replay b.hest b.script) before after end b.asked ends)
+
+-- a refused script
+script_task : (words : List (List ℕ)) (before after : Outside) (end : RunEnd) (b : HasBadScript words before.files after.files) → EndsTask (Replay b.hest b.script) before after end → IsUnlessFault end.status 4
+script_task words before after end b (inl (done, is, none, put)) = absurd (script_not_done words before.files after.files done b is)
+script_task words before after end b (inr (refusal, cause, counted, put)) =
+    unless_fault (refused_name (Replay b.hest b.script) refusal) before.out after.out refusal 4 end (script_refused words before.files after.files refusal b cause) put
+
+pub bad_script : (words : List (List ℕ)) (before after : Outside) (end : RunEnd) → EndsBy words before after end → HasBadScript words before.files after.files → IsUnlessFault end.status 4
+bad_script words before after end ends b = script_task words before after end b (of_task words (Replay b.hest b.script) before after end b.asked ends)
+
+-- a failed load is told by its refusal, unless memory ran out
+failed_status : (before after : FilesSeen) (refusal : Refusal) → (NoneFailed before after → ⊥) → CountsFailed before after refusal → (status_of refusal ≡ 5) ⊎ (status_of refusal ≡ 7)
+failed_status before after (refusals.Load file loads.Failed) failed counted = inl refl
+failed_status before after refusals.OutOfMemory failed counted = inr refl
+failed_status before after other failed counted = absurd (failed counted)
+
+untouched : (before after : FilesSeen) → after ≡ before → NoneFailed before after
+untouched before after same =
+    let P : FilesSeen → Type 0 = λ files. NoneFailed before files in
+    subst P (sym same) (none_in before)
+
+pub failed_load : (words : List (List ℕ)) (before after : Outside) (end : RunEnd) → EndsBy words before after end → (NoneFailed before.files after.files → ⊥) → IsUnlessFault end.status 5
+failed_load words before after end (inl (task, asked, inl (done, is, none, put))) failed = absurd (failed none)
+failed_load words before after end (inl (task, asked, inr (refusal, cause, counted, put))) failed =
+    unless_fault (refused_name task refusal) before.out after.out refusal 5 end (failed_status before.files after.files refusal failed counted) put
+failed_load words before after end (inr (nothing, (same, put))) failed = absurd (failed (untouched before.files after.files same))
+
+-- no refusal ends with status 0, 1 or 6
 refused_above : (refusal : Refusal) → status_of refusal < 2 → ⊥
 refused_above refusals.Usage less = absurd (omega (arith, less))
 refused_above (refusals.Hest error) less = absurd (omega (arith, less))
@@ -128,20 +136,85 @@ refused_above (refusals.Script line) less = absurd (omega (arith, less))
 refused_above (refusals.Load file why) less = absurd (omega (arith, less))
 refused_above refusals.OutOfMemory less = absurd (omega (arith, less))
 
+not_refused_at_6 : (refusal : Refusal) → status_of refusal ≡ 6 → ⊥
+not_refused_at_6 refusals.Usage six = absurd (omega (arith, six))
+not_refused_at_6 (refusals.Hest error) six = absurd (omega (arith, six))
+not_refused_at_6 (refusals.Einj error) six = absurd (omega (arith, six))
+not_refused_at_6 refusals.NotBuilt six = absurd (omega (arith, six))
+not_refused_at_6 (refusals.Script line) six = absurd (omega (arith, six))
+not_refused_at_6 (refusals.Load file why) six = absurd (omega (arith, six))
+not_refused_at_6 refusals.OutOfMemory six = absurd (omega (arith, six))
+
+below_2 : (before after : SinkSeen) (name : List ℕ) (refusal : Refusal) (end : RunEnd) → PutsLine before after name refusal end → end.status < 2 → ⊥
+below_2 before after name refusal end (same, inl whole) less = refused_above refusal (omega (arith, whole.0, less))
+below_2 before after name refusal end (same, inr cut) less = absurd (omega (arith, cut.0, less))
+
+abbrev status_if : Bool → ℕ
+status_if b = if b then 1 else 0
+
+one_or_none : (b : Bool) → (status_if b ≡ 0) ⊎ (status_if b ≡ 1)
+one_or_none true = inr refl
+one_or_none false = inl refl
+
+done_below_2 : (ledger : Option Kept) → (done_status ledger ≡ 0) ⊎ (done_status ledger ≡ 1)
+done_below_2 ledger = one_or_none (has_fatal ledger)
+
+not_done_at_6 : (ledger : Option Kept) → done_status ledger ≡ 6 → ⊥
+not_done_at_6 ledger six = elim (done_below_2 ledger) [ inl zero ↦ absurd (omega (arith, zero, six)) | inr one ↦ absurd (omega (arith, one, six)) ]
+
+-- status 6 comes where a put failed
+pub put_failed : (words : List (List ℕ)) (before after : Outside) (end : RunEnd) → EndsBy words before after end → end.status ≡ 6 → Rose before.out.faults after.out.faults
+put_failed words before after end (inl (task, asked, inl (done, is, none, put))) six = rose_at_6 before.out after.out done.text (done_end done.ledger) end (not_done_at_6 done.ledger) put six
+put_failed words before after end (inl (task, asked, inr (refusal, cause, counted, put))) six =
+    rose_at_6 before.out after.out (line_of (refused_name task refusal) refusal) (bare_end (status_of refusal)) end (not_refused_at_6 refusal) put six
+put_failed words before after end (inr (nothing, (same, inl put))) six =
+    rose_at_6 before.out after.out (line_of [] refusals.Usage) (bare_end 2) end (not_refused_at_6 refusals.Usage) put six
+put_failed words before after end (inr (nothing, (same, inr put))) six =
+    rose_at_6 before.out after.out (line_of [] refusals.OutOfMemory) (bare_end 7) end (not_refused_at_6 refusals.OutOfMemory) put six
+
 -- at the statuses 0 and 1 what was asked for is done, with that status, and its text was put
-pub is_done : (words : List (List ℕ)) (before after : FilesSeen) (sink_before sink_after : SinkSeen) (status : ℕ) (ledger : Option Kept) → EndsBy words before after sink_before sink_after status ledger → status < 2 → (status ≡ done_status ledger) × PutsText words before sink_before sink_after ledger
-is_done words before after sink_before sink_after status ledger (inl (kept, text, (task, asked, done), (same, put))) less = elim put [
-  | inl whole ↦
-      let P : Option Kept → Type 0 = λ l. IsDone before task l text in
-      (whole.0 ∙ ap done_status (sym same), (text, (task, asked, subst P (sym same) done), whole.1))
-  | inr cut ↦ absurd (omega (arith, cut.0, less))
-]
-is_done words before after sink_before sink_after status ledger (inr (refusal, cause, (same, put))) less = elim put [
-  | inl whole ↦ absurd (refused_above refusal (omega (arith, whole.0, less)))
-  | inr cut ↦ absurd (omega (arith, cut.0, less))
-]
+pub is_done : (words : List (List ℕ)) (before after : Outside) (end : RunEnd) → EndsBy words before after end → end.status < 2 → (end.status ≡ done_status end.ledger) × PutsText words before after end.ledger
+is_done words before after end (inl (task, asked, inl (done, is, none, (same, inl whole)))) less =
+    let P : Option Kept → Type 0 = λ ledger. IsDone before.files task (output ledger done.text) in (
+      whole.0 ∙ ap done_status (sym same),
+      record { task = task; asked = asked; text = done.text; done = subst P (sym same) is; put = whole.1 },
+    )
+is_done words before after end (inl (task, asked, inl (done, is, none, (same, inr cut)))) less = absurd (omega (arith, cut.0, less))
+is_done words before after end (inl (task, asked, inr (refusal, cause, counted, put))) less = absurd (below_2 before.out after.out (refused_name task refusal) refusal end put less)
+is_done words before after end (inr (nothing, (same, inl put))) less = absurd (below_2 before.out after.out [] refusals.Usage end put less)
+is_done words before after end (inr (nothing, (same, inr put))) less = absurd (below_2 before.out after.out [] refusals.OutOfMemory end put less)
 
 -- at status 0, where there is no ledger
-pub is_listed : (words : List (List ℕ)) (before after : FilesSeen) (sink_before sink_after : SinkSeen) (status : ℕ) → EndsBy words before after sink_before sink_after status None → status ≡ 0 → PutsText words before sink_before sink_after None
-is_listed words before after sink_before sink_after status ends zero =
-    (is_done words before after sink_before sink_after status None ends (omega (arith, zero))).1
+pub is_listed : (words : List (List ℕ)) (before after : Outside) (status : ℕ) → EndsBy words before after (bare_end status) → status ≡ 0 → PutsText words before after None
+is_listed words before after status ends zero = (is_done words before after (bare_end status) ends (omega (arith, zero))).1
+
+-- a status from the list
+is_status_at : (expected status : ℕ) → IsTrue (is_status expected) → status ≡ expected → IsTrue (is_status status)
+is_status_at expected status is same =
+    let P : ℕ → Type 0 = λ s. IsTrue (is_status s) in
+    subst P (sym same) is
+
+refused_status : (refusal : Refusal) → IsTrue (is_status (status_of refusal))
+refused_status refusals.Usage = refl
+refused_status (refusals.Hest error) = refl
+refused_status (refusals.Einj error) = refl
+refused_status refusals.NotBuilt = refl
+refused_status (refusals.Script line) = refl
+refused_status (refusals.Load file why) = refl
+refused_status refusals.OutOfMemory = refl
+
+status_done : (ledger : Option Kept) → IsTrue (is_status (done_status ledger))
+status_done ledger = elim (done_below_2 ledger) [ inl zero ↦ is_status_at 0 _ refl zero | inr one ↦ is_status_at 1 _ refl one ]
+
+put_status : (before after : SinkSeen) (text : List ℕ) (wanted end : RunEnd) → IsTrue (is_status wanted.status) → WasPut before after text wanted end → IsTrue (is_status end.status)
+put_status before after text wanted end is put = elim (status_put before after text wanted end put) [
+  | inl same ↦ is_status_at wanted.status end.status is same
+  | inr cut ↦ is_status_at 6 end.status refl cut
+]
+
+pub statuses : (words : List (List ℕ)) (before after : Outside) (end : RunEnd) → EndsBy words before after end → IsTrue (is_status end.status)
+statuses words before after end (inl (task, asked, inl (done, is, none, put))) = put_status before.out after.out done.text (done_end done.ledger) end (status_done done.ledger) put
+statuses words before after end (inl (task, asked, inr (refusal, cause, counted, put))) =
+    put_status before.out after.out (line_of (refused_name task refusal) refusal) (bare_end (status_of refusal)) end (refused_status refusal) put
+statuses words before after end (inr (nothing, (same, inl put))) = put_status before.out after.out (line_of [] refusals.Usage) (bare_end 2) end refl put
+statuses words before after end (inr (nothing, (same, inr put))) = put_status before.out after.out (line_of [] refusals.OutOfMemory) (bare_end 7) end refl put

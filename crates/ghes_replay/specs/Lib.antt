@@ -1,8 +1,9 @@
 pub mod Check
 pub mod Decode
-pub mod Listing
+pub mod Done
 pub mod Loading
 pub mod Planned
+pub mod Program
 pub mod Refusal
 pub mod Run
 pub mod Seen

@@ -1,5 +1,5 @@
 -- Refusals of a run: the status and the line of each (own choice).
-use Rattle.std.specs.Prelude.{ℕ, List, [], ◌++◌, codes, slice_get, unwrap_or}
+use Rattle.std.specs.Prelude.{ℕ, List, [], ◌++◌, codes}
 use Rattle.std.specs.Fmt.{decimal}
 use Rattle.apei_einj.specs.Text.{einj_error_text}
 use Rattle.apei_hest.specs.Text.{hest_error_text}
@@ -7,28 +7,19 @@ use Rattle.ghes_outside.specs.declared.files.LoadError.{LoadError}
 use Rattle.ghes_outside.specs.declared.files.LoadError.TheVariants as loads
 use Rattle.ghes_plain_script.specs.Text.{kind_text}
 use Rattle.ghes_plain_script.specs.declared.error.BadLine.{BadLine}
-use Rattle.ghes_replay.specs.declared.exit.InputFile.{InputFile}
-use Rattle.ghes_replay.specs.declared.exit.InputFile.TheVariants as files
 use Rattle.ghes_replay.specs.declared.exit.Refusal.{Refusal}
 use Rattle.ghes_replay.specs.declared.exit.Refusal.TheVariants as refusals
+use Rattle.ghes_replay.specs.Task.{Task, file_of}
 
 -- the status that a refusal gives
 abbrev pub status_of : Refusal → ℕ
 status_of refusals.Usage = 2
 status_of (refusals.Hest error) = 3
-status_of refusals.NotBuilt = 3
 status_of (refusals.Einj error) = 3
+status_of refusals.NotBuilt = 3
 status_of (refusals.Script line) = 4
 status_of (refusals.Load file why) = 5
 status_of refusals.OutOfMemory = 7
-
--- the word that names a file: the table or the block is word 1, the injection table word 2 and the script word 3, counted
--- from 0
-abbrev pub file_name : List (List ℕ) → InputFile → List ℕ
-file_name words files.Hest = unwrap_or (slice_get words 1) []
-file_name words files.Einj = unwrap_or (slice_get words 2) []
-file_name words files.Script = unwrap_or (slice_get words 3) []
-file_name words files.Block = unwrap_or (slice_get words 1) []
 
 -- why a file was not loaded
 abbrev pub load_error_text : LoadError → List ℕ
@@ -74,12 +65,7 @@ line_of name (refusals.Einj error) = einj_line (einj_error_text error)
 line_of name (refusals.Script line) = script_line line
 line_of name refusals.OutOfMemory = memory_line
 
--- the word of the command line that names the file that a refusal is about
-abbrev pub refused_word : List (List ℕ) → Refusal → List ℕ
-refused_word words (refusals.Load file why) = file_name words file
-refused_word words refusals.Usage = []
-refused_word words (refusals.Hest error) = file_name words files.Hest
-refused_word words refusals.NotBuilt = file_name words files.Hest
-refused_word words (refusals.Einj error) = file_name words files.Einj
-refused_word words (refusals.Script line) = file_name words files.Script
-refused_word words refusals.OutOfMemory = []
+-- the name of the file in the line of a refusal, which only a file that was not loaded has
+abbrev pub refused_name : Task → Refusal → List ℕ
+refused_name task (refusals.Load file why) = file_of task file
+refused_name task other = []

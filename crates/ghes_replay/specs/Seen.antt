@@ -1,35 +1,25 @@
--- What files and an output tell of themselves, and what loads change.
-use Rattle.std.specs.Prelude.{◌≡◌, ◌≤◌, ℕ, List, ◌++◌, length, Option}
+-- What files and an output tell of a run, and what loads change.
+use Rattle.std.specs.Prelude.{◌≡◌, ◌≤◌, ℕ, List, ◌++◌, length}
 use Rattle.std.specs.Option.{option_map}
 use Rattle.std.specs.List.{AllByRecursion}
-use Rattle.ghes_outside.specs.Outside.{Agrees}
+use Rattle.ghes_outside.specs.Outside.{FilesSeen, SinkSeen, Agrees}
+use Rattle.ghes_replay.specs.declared.exit.InputFile.{InputFile}
+use Rattle.ghes_replay.specs.declared.exit.InputFile.TheVariants as files
 
--- what files tell: their contents by name, the names whose load failed, and how often a load failed
-pub record FilesSeen : Type 0 where
-  pub contents : List ℕ → Option (List ℕ)
-  pub failed : Option (List (List ℕ))
-  pub faults : ℕ
+-- what is outside of a run: files and an output
+pub record Outside : Type 0 where
+  pub files : FilesSeen
+  pub out : SinkSeen
 
-abbrev pub files_seen : (List ℕ → Option (List ℕ)) → Option (List (List ℕ)) → ℕ → FilesSeen
-files_seen contents failed faults = record { contents = contents; failed = failed; faults = faults }
-
--- what an output tells: the bytes that it took, and how often a put failed
-pub record SinkSeen : Type 0 where
-  pub written : Option (List ℕ)
-  pub faults : ℕ
-
-abbrev pub sink_seen : Option (List ℕ) → ℕ → SinkSeen
-sink_seen written faults = record { written = written; faults = faults }
+abbrev pub outside : FilesSeen → SinkSeen → Outside
+outside files out = record { files = files; out = out }
 
 -- a table has at most 1 MiB, a script at most 16 MiB, and the file of a block at most 65,536 bytes
-abbrev pub table_limit : ℕ
-table_limit = 1048576
-
-abbrev pub script_limit : ℕ
-script_limit = 16777216
-
-abbrev pub block_limit : ℕ
-block_limit = 65536
+abbrev pub limit_for : InputFile → ℕ
+limit_for files.Hest = 1048576
+limit_for files.Einj = 1048576
+limit_for files.Script = 16777216
+limit_for files.Block = 65536
 
 -- new failed names, behind the old ones
 abbrev pub AddsNames : FilesSeen → FilesSeen → List (List ℕ) → Type 0
@@ -43,7 +33,12 @@ pub record Loads (IsName : List ℕ → Type 0) (before after : FilesSeen) : Typ
   pub added : AddsNames before after names
   pub each : AllByRecursion IsName names
 
--- These bytes were loaded from a file: they are its contents, where these are told, and within the limit.
-pub record IsLoaded (seen : FilesSeen) (name : List ℕ) (limit : ℕ) (bytes : List ℕ) : Type 0 where
+-- No load failed in between: no name was noted, and the count is the same.
+pub record NoneFailed (before after : FilesSeen) : Type 0 where
+  pub names : after.failed ≡ before.failed
+  pub count : after.faults ≡ before.faults
+
+-- These bytes were loaded from a file: they are its contents, where these are told, and within the limit of such a file.
+pub record IsLoaded (seen : FilesSeen) (file : InputFile) (name bytes : List ℕ) : Type 0 where
   pub told : Agrees (seen.contents name) bytes
-  pub within : length bytes ≤ limit
+  pub within : length bytes ≤ limit_for file

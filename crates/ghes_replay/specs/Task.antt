@@ -1,5 +1,7 @@
 -- What the words of the command line ask for.
 use Rattle.std.specs.Prelude.{◌≡◌, ◌≢◌, ◌⊎◌, ℕ, List, [], ◌∷◌, codes}
+use Rattle.ghes_replay.specs.declared.exit.InputFile.{InputFile}
+use Rattle.ghes_replay.specs.declared.exit.InputFile.TheVariants as files
 use Rattle.ghes_replay.specs.declared.task.Task.{Task as Words}
 use Rattle.ghes_replay.specs.declared.task.Task.TheVariants as words
 
@@ -29,6 +31,15 @@ IsFileOf (Decode block) name = name ≡ block
 -- a word of the command line that stands for a file
 abbrev pub IsFileWord : List (List ℕ) → List ℕ → Type 0
 IsFileWord words name = (task : Task) × IsTask words task × IsFileOf task name
+
+-- the name of a file of a task, by what it is; empty where the task has none (own choice)
+abbrev pub file_of : Task → InputFile → List ℕ
+file_of (Replay hest script) files.Hest = hest
+file_of (Replay hest script) files.Script = script
+file_of (Check hest einj) files.Hest = hest
+file_of (Check hest einj) files.Einj = einj
+file_of (Decode block) files.Block = block
+file_of task file = []
 
 -- a task without where its names lie in memory
 abbrev pub task_seen : Words → Task

@@ -6,22 +6,24 @@ use Rattle.apei_hest.specs.Hest.{Judges}
 use Rattle.apei_hest.specs.declared.error.HestError.{HestError}
 use Rattle.apei_hest.specs.declared.source.Ghes.{Ghes}
 use Rattle.apei_hest.specs.declared.source.Source.{Source}
-use Rattle.ghes_outside.specs.Outside.{Rose}
+use Rattle.ghes_outside.specs.Outside.{FilesSeen, Rose}
 use Rattle.ghes_plain_script.specs.declared.error.BadLine.{BadLine}
 use Rattle.ghes_plain_script.specs.declared.line.Line.{Line}
 use Rattle.ghes_plain_script.specs.Script.{IsScript, IsRefusedAt}
-use Rattle.ghes_replay.specs.Seen.{FilesSeen, SinkSeen, table_limit, script_limit, block_limit}
+use Rattle.ghes_replay.specs.declared.exit.InputFile.{InputFile}
+use Rattle.ghes_replay.specs.declared.exit.InputFile.TheVariants as files
+use Rattle.ghes_replay.specs.Seen.{Outside, limit_for}
 use Rattle.ghes_replay.specs.Served.{served}
 use Rattle.ghes_replay.specs.Task.{Task, Replay, Check, Decode, IsTask, IsEinjName}
 
 -- A file is told, and within its limit.
-pub record IsTold (seen : FilesSeen) (name : List ℕ) (limit : ℕ) (bytes : List ℕ) : Type 0 where
+pub record IsTold (seen : FilesSeen) (file : InputFile) (name bytes : List ℕ) : Type 0 where
   pub told : seen.contents name ≡ Some bytes
-  pub within : length bytes ≤ limit
+  pub within : length bytes ≤ limit_for file
 
 -- a told table is accepted with these sources
 abbrev pub TellsHest : FilesSeen → List ℕ → List Source → Type 0
-TellsHest seen name found = (bytes : List ℕ) × IsTold seen name table_limit bytes × Judges bytes (Ok found)
+TellsHest seen name found = (bytes : List ℕ) × IsTold seen files.Hest name bytes × Judges bytes (Ok found)
 
 -- a told table is accepted, and a replay serves this source of it
 abbrev pub TellsTable : FilesSeen → List ℕ → Ghes → Type 0
@@ -29,12 +31,12 @@ TellsTable seen name ghes = (found : List Source) × TellsHest seen name found �
 
 -- a told script has these lines
 abbrev pub TellsScript : FilesSeen → List ℕ → Ghes → List Line → Type 0
-TellsScript seen name ghes lines = (bytes : List ℕ) × IsTold seen name script_limit bytes × IsScript ghes.id bytes lines
+TellsScript seen name ghes lines = (bytes : List ℕ) × IsTold seen files.Script name bytes × IsScript ghes.id bytes lines
 
 -- a told injection table is accepted, or the word names none
 abbrev pub TellsInjection : FilesSeen → List ℕ → Type 0
 TellsInjection seen name =
-    (name ≡ codes "-") ⊎ ((bytes : List ℕ) × IsTold seen name table_limit bytes × (einj_refusal bytes ≡ None))
+    (name ≡ codes "-") ⊎ ((bytes : List ℕ) × IsTold seen files.Einj name bytes × (einj_refusal bytes ≡ None))
 
 -- both tables of a listing are told and accepted, or the first one is and there is no other
 abbrev pub TellsBoth : FilesSeen → List ℕ → List ℕ → Type 0
@@ -44,16 +46,16 @@ TellsBoth seen hest einj = (found : List Source) × TellsHest seen hest found ×
 abbrev pub Accepts : FilesSeen → Task → Type 0
 Accepts seen (Replay hest script) = (ghes : Ghes) × TellsTable seen hest ghes × (lines : List Line) × TellsScript seen script ghes lines
 Accepts seen (Check hest einj) = TellsBoth seen hest einj
-Accepts seen (Decode block) = (bytes : List ℕ) × IsTold seen block block_limit bytes
+Accepts seen (Decode block) = (bytes : List ℕ) × IsTold seen files.Block block bytes
 
 -- a told table is refused
 abbrev pub RefusesHest : FilesSeen → List ℕ → Type 0
-RefusesHest seen name = (bytes : List ℕ) × IsTold seen name table_limit bytes × (error : HestError) × Judges bytes (Err error)
+RefusesHest seen name = (bytes : List ℕ) × IsTold seen files.Hest name bytes × (error : HestError) × Judges bytes (Err error)
 
 -- a told injection table is refused
 abbrev pub RefusesEinj : FilesSeen → List ℕ → Type 0
 RefusesEinj seen name =
-    IsEinjName name × (bytes : List ℕ) × IsTold seen name table_limit bytes × (error : EinjError) × (einj_refusal bytes ≡ Some error)
+    IsEinjName name × (bytes : List ℕ) × IsTold seen files.Einj name bytes × (error : EinjError) × (einj_refusal bytes ≡ Some error)
 
 -- a told table is accepted, and the injection table beside it is told and refused
 abbrev pub RefusesSecond : FilesSeen → List ℕ → List ℕ → Type 0
@@ -92,15 +94,15 @@ pub record HasBadScript (words : List (List ℕ)) (before after : FilesSeen) : T
   pub ghes : Ghes
   pub table : TellsTable before hest ghes
   pub bytes : List ℕ
-  pub told : IsTold before script script_limit bytes
+  pub told : IsTold before files.Script script bytes
   pub at : BadLine
   pub refused : IsRefusedAt ghes.id bytes at
   pub no_failed_load : Rose before.faults after.faults → ⊥
 
 -- The words ask for a task whose files are told and accepted, and no load and no put failed.
-pub record IsAccepted (words : List (List ℕ)) (before after : FilesSeen) (sink_before sink_after : SinkSeen) : Type 0 where
+pub record IsAccepted (words : List (List ℕ)) (before after : Outside) : Type 0 where
   pub task : Task
   pub asked : IsTask words task
-  pub accepted : Accepts before task
-  pub no_failed_load : Rose before.faults after.faults → ⊥
-  pub no_failed_put : Rose sink_before.faults sink_after.faults → ⊥
+  pub accepted : Accepts before.files task
+  pub no_failed_load : Rose before.files.faults after.files.faults → ⊥
+  pub no_failed_put : Rose before.out.faults after.out.faults → ⊥

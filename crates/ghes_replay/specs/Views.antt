@@ -1,10 +1,10 @@
 -- Results without where their lists lie in memory.
-use Rattle.std.specs.Prelude.{ℕ, List, Vec, Option, Result, Ok, Err}
+use Rattle.std.specs.Prelude.{ℕ, List, Vec, Result, Ok, Err}
 use Rattle.std.specs.declared.alloc.Global.{Global}
 use Rattle.ghes_plain_script.specs.declared.line.Line.{Line}
-use Rattle.ghes_replay.specs.declared.doing.Done.{Done}
-use Rattle.ghes_serial.specs.Kept.{Kept}
+use Rattle.ghes_replay.specs.declared.done.Done.{Done}
 use Rattle.ghes_replay.specs.declared.exit.Refusal.{Refusal}
+use Rattle.ghes_replay.specs.Done.{Output, output}
 
 -- the lines of a vector, or the refusal
 abbrev pub lines_of : Result (Vec Line Global) Refusal → Result (List Line) Refusal
@@ -16,7 +16,7 @@ abbrev pub bytes_of : Result (Vec ℕ Global) Refusal → Result (List ℕ) Refu
 bytes_of (Ok bytes) = Ok bytes.items
 bytes_of (Err refusal) = Err refusal
 
--- the ledger, where there is one, and the text of what was done, or the refusal
-abbrev pub done_of : Result Done Refusal → Result (Option Kept × List ℕ) Refusal
-done_of (Ok done) = Ok (done.ledger, done.text.items)
+-- what was done, or the refusal
+abbrev pub done_of : Result Done Refusal → Result Output Refusal
+done_of (Ok done) = Ok (output done.ledger done.text.items)
 done_of (Err refusal) = Err refusal

@@ -1,10 +1,18 @@
+//! The listing of a table of error sources, and of an injection table beside it.
 ghost use Rattle.std.specs.Prelude.{◌≡◌, ◌++◌, length, is_some, OnOk, IfOk};
 ghost use Rattle.std.specs.String.{string_bytes};
 ghost use Rattle.std.specs.List.{flat_map};
+ghost use Rattle.ghes_replay.specs.Done.{Prints, Does};
+ghost use Rattle.ghes_replay.specs.Task.{Check};
+ghost use Rattle.ghes_replay.specs.Views.{done_of};
 ghost use Rattle.ghes_replay.specs.Check.{form_text, ghes_line, skipped_line, source_text, hest_count_line, einj_count_line, injection_line, check_text};
 
+use crate::Refusal;
+use crate::done::Done;
+use crate::loading::{load_hest, load_injection};
 use apei_einj::Einj;
 use apei_hest::{Ghes, Source};
+use ghes_outside::Files;
 use std::alloc::{AllocError, Global};
 
 // The version of a generic source, and whether it is enabled.
@@ -90,8 +98,8 @@ fn injection_line(alloc: Global, injection: &Option<Einj>) -> Result<String, All
     }
 }
 
-/// The listing of a table, and of an injection table where there is one.
-pub(crate) fn check_text(
+// The listing of a table, and of an injection table where there is one.
+fn check_text(
     alloc: Global,
     found: &[Source],
     injection: &Option<Einj>,
@@ -105,4 +113,33 @@ pub(crate) fn check_text(
     let last = injection_line(alloc, injection)?;
     text.extend_from_slice(last.as_bytes())?;
     Ok(text)
+}
+
+// Lists tables that were loaded.
+fn list_both(alloc: Global, found: &[Source], injection: &Option<Einj>) -> Result<Done, Refusal>
+    ensures { Prints (λ text. text ≡ check_text found.now injection.now) (done_of result) }
+{
+    match check_text(alloc, found, injection) {
+        Ok(text) => Ok(Done { ledger: None, text }),
+        Err(_) => Err(Refusal::OutOfMemory),
+    }
+}
+
+/// Lists the table of a file, and the injection table of another unless its word is `-`.
+pub(crate) fn check<F: Files>(
+    alloc: Global,
+    files: &mut F,
+    hest: &str,
+    einj: &str,
+) -> Result<Done, Refusal>
+    ensures { Does (F.seen files.old) (F.seen files.new) (Check hest.now einj.now) (done_of result) }
+{
+    let found = match load_hest(alloc, files, hest) {
+        Ok(found) => found,
+        Err(refusal) => return Err(refusal),
+    };
+    match load_injection(alloc, files, einj) {
+        Ok(injection) => list_both(alloc, found.sources(), &injection),
+        Err(refusal) => Err(refusal),
+    }
 }

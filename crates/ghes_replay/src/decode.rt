@@ -5,8 +5,15 @@ ghost use Rattle.cper_block.specs.Block.{Judges};
 ghost use Rattle.cper_block.specs.Header.{header_of, block_length};
 ghost use Rattle.ghes_report.specs.Body.{block_text};
 ghost use Rattle.ghes_replay.specs.Decode.{block_line, malformed_line, Decodes};
+ghost use Rattle.ghes_replay.specs.Done.{Prints, Does};
+ghost use Rattle.ghes_replay.specs.Task.{Decode};
+ghost use Rattle.ghes_replay.specs.Views.{done_of};
 
+use crate::Refusal;
+use crate::done::Done;
+use crate::loading::load_block;
 use cper_block::{Block, Header, Malformed};
+use ghes_outside::Files;
 use ghes_report::block_text;
 use std::alloc::{AllocError, Global};
 
@@ -38,14 +45,33 @@ fn whole_text(alloc: Global, header: &Header, bytes: &[u8]) -> Result<Vec<u8>, A
     Ok(text)
 }
 
-/// The text of the block that the bytes begin with, or of the reason why they begin with none.
-///
-/// Bytes behind the block are not read.
-pub(crate) fn decode_text(alloc: Global, bytes: &[u8]) -> Result<Vec<u8>, AllocError>
+// The text of the block that the bytes begin with, or of the reason why they begin with none.
+// Bytes behind the block are not read.
+fn decode_text(alloc: Global, bytes: &[u8]) -> Result<Vec<u8>, AllocError>
     ensures { IfOk result (λ text. Decodes bytes.now text.items) }
 {
     match Block::read(bytes, BLOCK_LIMIT) {
         Ok(block) => whole_text(alloc, &block.header(), bytes),
         Err(reason) => Ok(malformed_line(alloc, reason)?.into_bytes()),
+    }
+}
+
+// Prints the block that the bytes of a file begin with.
+fn print_block(alloc: Global, bytes: &[u8]) -> Result<Done, Refusal>
+    ensures { Prints (Decodes bytes.now) (done_of result) }
+{
+    match decode_text(alloc, bytes) {
+        Ok(text) => Ok(Done { ledger: None, text }),
+        Err(_) => Err(Refusal::OutOfMemory),
+    }
+}
+
+/// Decodes the block of a file.
+pub(crate) fn decode<F: Files>(alloc: Global, files: &mut F, block: &str) -> Result<Done, Refusal>
+    ensures { Does (F.seen files.old) (F.seen files.new) (Decode block.now) (done_of result) }
+{
+    match load_block(alloc, files, block) {
+        Ok(bytes) => print_block(alloc, &bytes),
+        Err(refusal) => Err(refusal),
     }
 }

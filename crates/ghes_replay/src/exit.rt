@@ -1,8 +1,9 @@
-ghost use Rattle.std.specs.Prelude.{◌≡◌, IfOk, map};
+//! The files of a run and its refusals, each with its status and its line.
+ghost use Rattle.std.specs.Prelude.{◌≡◌, IfOk};
 ghost use Rattle.std.specs.String.{string_bytes};
 ghost use Rattle.apei_einj.specs.Text.{einj_error_text};
 ghost use Rattle.apei_hest.specs.Text.{hest_error_text};
-ghost use Rattle.ghes_replay.specs.Refusal.{status_of, file_name, load_error_text, load_line, hest_line, einj_line, script_line, line_of, refused_word};
+ghost use Rattle.ghes_replay.specs.Refusal.{status_of, load_error_text, load_line, hest_line, einj_line, script_line, line_of};
 
 use apei_einj::EinjError;
 use apei_hest::HestError;
@@ -51,21 +52,6 @@ impl From<AllocError> for Refusal {
 /// The line for want of memory, which takes none.
 pub(crate) const MEMORY_LINE: &[u8] = b"ghes: out of memory\n";
 
-// The word that names a file.
-fn file_name(words: &[String], file: InputFile) -> &str
-    ensures { result.now ≡ file_name (map string_bytes words.now) file }
-{
-    let word = match file {
-        InputFile::Hest | InputFile::Block => words.get(1),
-        InputFile::Einj => words.get(2),
-        InputFile::Script => words.get(3),
-    };
-    match word {
-        Some(name) => name.as_str(),
-        None => "",
-    }
-}
-
 // Why a file was not loaded, in words.
 fn load_word(why: LoadError) -> &'static str
     ensures { result.now ≡ load_error_text why }
@@ -108,19 +94,6 @@ fn script_line(alloc: Global, at: BadLine) -> Result<String, AllocError>
 }
 
 impl Refusal {
-    /// The word of the command line that names the file that the refusal is about, empty where it is about none.
-    pub(crate) fn word(self, words: &[String]) -> &str
-        ensures { result.now ≡ refused_word (map string_bytes words.now) self }
-    {
-        match self {
-            Refusal::Load(file, _) => file_name(words, file),
-            Refusal::Hest(_) | Refusal::NotBuilt => file_name(words, InputFile::Hest),
-            Refusal::Einj(_) => file_name(words, InputFile::Einj),
-            Refusal::Script(_) => file_name(words, InputFile::Script),
-            Refusal::Usage | Refusal::OutOfMemory => "",
-        }
-    }
-
     /// The status that the program ends with.
     pub fn status(self) -> u8
         ensures { result ≡ status_of self }

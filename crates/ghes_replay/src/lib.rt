@@ -3,10 +3,12 @@
 
 mod check;
 mod decode;
-mod doing;
+mod done;
 mod exit;
 mod loading;
+mod program;
 mod putting;
+mod replay;
 mod run;
 mod script_run;
 mod served;
@@ -20,4 +22,5 @@ pub use ghes_serial::{
     AckState, Call, Ledger, Mark, Outcome, Packet, PanicEntry, Reply, Report, Reported, Taken,
     a_ledger_tells_one_history, each_block_has_one_fate,
 };
+pub use program::ghes_main;
 pub use run::{RunEnd, check_run, decode_run, ghes_run};

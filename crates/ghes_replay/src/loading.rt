@@ -1,8 +1,8 @@
+//! Loads files, and reads what they hold.
 ghost use Rattle.std.specs.Prelude.{◌≡◌, ◌<◌, ◌^◌, ◌-◌, length};
-ghost use Rattle.ghes_replay.specs.Seen.{files_seen};
-ghost use Rattle.ghes_replay.specs.Loading.{LoadsHest, LoadsScript, ReadsHest, ReadsLines, load_refusal};
-ghost use Rattle.ghes_replay.specs.Listing.{ReadsEinj, LoadsEinj, LoadsInjection};
-ghost use Rattle.ghes_replay.specs.Decode.{LoadsBlock};
+ghost use Rattle.ghes_replay.specs.declared.exit.InputFile.TheVariants as kinds;
+ghost use Rattle.ghes_replay.specs.Loading.{LoadsFile, LoadsHest, LoadsInjection, LoadsScript, ReadsHest, ReadsEinj, ReadsNamed, ReadsLines, load_refusal};
+ghost use Rattle.ghes_replay.specs.Seen.{limit_for};
 ghost use Rattle.ghes_replay.specs.Views.{lines_of, bytes_of};
 
 use crate::{InputFile, Refusal};
@@ -12,12 +12,16 @@ use ghes_outside::{Files, LoadError};
 use ghes_plain_script::{Line, ScriptError, read_script};
 use std::alloc::Global;
 
-/// How many bytes a table may have, and an injection table too.
-const TABLE_LIMIT: usize = 1048576;
-/// How many bytes a script may have.
-const SCRIPT_LIMIT: usize = 16777216;
-/// How many bytes the file of a block may have.
-const BLOCK_LIMIT: usize = 65536;
+// How many bytes a file may have.
+fn limit_for(file: InputFile) -> usize
+    ensures { result ≡ limit_for file }
+{
+    match file {
+        InputFile::Hest | InputFile::Einj => 1048576,
+        InputFile::Script => 16777216,
+        InputFile::Block => 65536,
+    }
+}
 
 // The table that the bytes are.
 fn read_hest(alloc: Global, bytes: &[u8]) -> Result<Hest, Refusal>
@@ -63,31 +67,39 @@ fn load_refusal(file: InputFile, why: LoadError) -> Refusal
     }
 }
 
-/// Loads a table and reads its sources.
-pub(crate) fn load_hest<F: Files>(alloc: Global, files: &mut F, name: &str) -> Result<Hest, Refusal>
-    ensures { LoadsHest
-        (files_seen (F.contents files.old) (F.failed files.old) (F.faults files.old))
-        (files_seen (F.contents files.new) (F.failed files.new) (F.faults files.new))
-        name.now result }
+// Loads a file.
+fn load_file<F: Files>(
+    alloc: Global,
+    files: &mut F,
+    file: InputFile,
+    name: &str,
+) -> Result<Vec<u8>, Refusal>
+    ensures { LoadsFile (F.seen files.old) (F.seen files.new) file name.now (bytes_of result) }
 {
     let mut bytes = Vec::new(alloc);
-    match files.load(name, &mut bytes, TABLE_LIMIT) {
-        Ok(()) => read_hest(alloc, &bytes),
-        Err(why) => Err(load_refusal(InputFile::Hest, why)),
+    match files.load(name, &mut bytes, limit_for(file)) {
+        Ok(()) => Ok(bytes),
+        Err(why) => Err(load_refusal(file, why)),
     }
 }
 
-// Loads an injection table and reads its entries.
-fn load_einj<F: Files>(alloc: Global, files: &mut F, name: &str) -> Result<Einj, Refusal>
-    ensures { LoadsEinj
-        (files_seen (F.contents files.old) (F.failed files.old) (F.faults files.old))
-        (files_seen (F.contents files.new) (F.failed files.new) (F.faults files.new))
-        name.now result }
+/// Loads a table and reads its sources.
+pub(crate) fn load_hest<F: Files>(alloc: Global, files: &mut F, name: &str) -> Result<Hest, Refusal>
+    ensures { LoadsHest (F.seen files.old) (F.seen files.new) name.now result }
 {
-    let mut bytes = Vec::new(alloc);
-    match files.load(name, &mut bytes, TABLE_LIMIT) {
-        Ok(()) => read_einj(alloc, &bytes),
-        Err(why) => Err(load_refusal(InputFile::Einj, why)),
+    match load_file(alloc, files, InputFile::Hest, name) {
+        Ok(bytes) => read_hest(alloc, &bytes),
+        Err(refusal) => Err(refusal),
+    }
+}
+
+// Reads the injection table that the bytes are, as one that a word names.
+fn read_named(alloc: Global, bytes: &[u8]) -> Result<Option<Einj>, Refusal>
+    ensures { ReadsNamed bytes.now result }
+{
+    match read_einj(alloc, bytes) {
+        Ok(einj) => Ok(Some(einj)),
+        Err(refusal) => Err(refusal),
     }
 }
 
@@ -97,16 +109,13 @@ pub(crate) fn load_injection<F: Files>(
     files: &mut F,
     name: &str,
 ) -> Result<Option<Einj>, Refusal>
-    ensures { LoadsInjection
-        (files_seen (F.contents files.old) (F.failed files.old) (F.faults files.old))
-        (files_seen (F.contents files.new) (F.failed files.new) (F.faults files.new))
-        name.now result }
+    ensures { LoadsInjection (F.seen files.old) (F.seen files.new) name.now result }
 {
     if name == "-" {
         return Ok(None);
     }
-    match load_einj(alloc, files, name) {
-        Ok(einj) => Ok(Some(einj)),
+    match load_file(alloc, files, InputFile::Einj, name) {
+        Ok(bytes) => read_named(alloc, &bytes),
         Err(refusal) => Err(refusal),
     }
 }
@@ -118,15 +127,11 @@ pub(crate) fn load_script<F: Files>(
     name: &str,
     ghes: &Ghes,
 ) -> Result<Vec<Line>, Refusal>
-    ensures { LoadsScript
-        (files_seen (F.contents files.old) (F.failed files.old) (F.faults files.old))
-        (files_seen (F.contents files.new) (F.failed files.new) (F.faults files.new))
-        name.now ghes.now (lines_of result) }
+    ensures { LoadsScript (F.seen files.old) (F.seen files.new) name.now ghes.now (lines_of result) }
 {
-    let mut bytes = Vec::new(alloc);
-    match files.load(name, &mut bytes, SCRIPT_LIMIT) {
-        Ok(()) => read_lines(alloc, ghes.id, &bytes),
-        Err(why) => Err(load_refusal(InputFile::Script, why)),
+    match load_file(alloc, files, InputFile::Script, name) {
+        Ok(bytes) => read_lines(alloc, ghes.id, &bytes),
+        Err(refusal) => Err(refusal),
     }
 }
 
@@ -136,14 +141,7 @@ pub(crate) fn load_block<F: Files>(
     files: &mut F,
     name: &str,
 ) -> Result<Vec<u8>, Refusal>
-    ensures { LoadsBlock
-        (files_seen (F.contents files.old) (F.failed files.old) (F.faults files.old))
-        (files_seen (F.contents files.new) (F.failed files.new) (F.faults files.new))
-        name.now (bytes_of result) }
+    ensures { LoadsFile (F.seen files.old) (F.seen files.new) kinds.Block name.now (bytes_of result) }
 {
-    let mut bytes = Vec::new(alloc);
-    match files.load(name, &mut bytes, BLOCK_LIMIT) {
-        Ok(()) => Ok(bytes),
-        Err(why) => Err(load_refusal(InputFile::Block, why)),
-    }
+    load_file(alloc, files, InputFile::Block, name)
 }

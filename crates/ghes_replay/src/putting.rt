@@ -1,6 +1,6 @@
+//! Puts a text in pieces, and ends the run.
 ghost use Rattle.std.specs.Prelude.{◌≡◌, ◌≤◌, OnOk, OnErr};
 ghost use Rattle.ghes_outside.specs.Outside.{Rose, Appends, AppendsFront};
-ghost use Rattle.ghes_replay.specs.Seen.{sink_seen};
 ghost use Rattle.ghes_replay.specs.Run.{WasPut};
 
 use crate::RunEnd;
@@ -12,9 +12,9 @@ const PIECE: usize = 4096;
 
 // Puts a text in pieces.
 fn put_all<K: Sink>(out: &mut K, text: &[u8]) -> Result<(), PutFailed>
-    ensures ok { OnOk result (Appends (K.written out.old) (K.written out.new) text.now) }
-    ensures err { OnErr result (AppendsFront (K.written out.old) (K.written out.new) text.now) }
-    ensures cause { OnErr result (Rose (K.faults out.old) (K.faults out.new)) }
+    ensures ok { OnOk result (Appends (K.seen out.old).written (K.seen out.new).written text.now) }
+    ensures err { OnErr result (AppendsFront (K.seen out.old).written (K.seen out.new).written text.now) }
+    ensures cause { OnErr result (Rose (K.seen out.old).faults (K.seen out.new).faults) }
 {
     let mut rest = text;
     while !rest.is_empty() {
@@ -32,8 +32,7 @@ pub(crate) fn end_with<K: Sink>(
     status: u8,
     ledger: Option<Ledger>,
 ) -> RunEnd
-    ensures { WasPut (sink_seen (K.written out.old) (K.faults out.old)) (sink_seen (K.written out.new) (K.faults out.new))
-        text.now status ledger result.status result.ledger }
+    ensures { WasPut (K.seen out.old) (K.seen out.new) text.now (record { status = status; ledger = ledger }) result }
 {
     match put_all(out, text) {
         Ok(()) => RunEnd { status, ledger },

@@ -1,20 +1,23 @@
-ghost use Rattle.std.specs.Prelude.{◌≡◌, ◌<◌, ◌⊎◌, ◌∷◌, [], IsTrue, codes, map, None};
-ghost use Rattle.std.specs.List.{list_any};
+//! The top calls: what words or names ask for is done, and its text, or the line of its refusal, is put.
+ghost use Rattle.std.specs.Prelude.{◌≡◌, ◌<◌, ◌⊎◌, ◌∷◌, [], IsTrue, None, codes, map};
 ghost use Rattle.std.specs.String.{string_bytes};
-ghost use Rattle.ghes_replay.specs.Seen.{files_seen, sink_seen, Loads};
-ghost use Rattle.ghes_replay.specs.Task.{Task as Asked, IsTask, IsFileWord};
-ghost use Rattle.ghes_replay.specs.Run.{Answers, RefusedBy, EndsBy, PutsText, is_status, is_check_status, is_decode_status, done_status, IsUnlessFault};
-ghost use Rattle.ghes_replay.specs.Refusal.{refused_word};
-ghost use Rattle.ghes_replay.specs.Told.{IsAccepted, HasBadTable, HasUnserved, HasBadScript};
 ghost use Rattle.ghes_outside.specs.Outside.{Rose};
+ghost use Rattle.ghes_replay.specs.Done.{Does, done_status};
+ghost use Rattle.ghes_replay.specs.Run.{AskNothing, EndsBy, EndsTask, IsUnlessFault, PutsText, RefusedBy, bare_end, is_check_status, is_decode_status, is_status};
+ghost use Rattle.ghes_replay.specs.Seen.{Loads, NoneFailed, outside};
+ghost use Rattle.ghes_replay.specs.Task.{IsFileOf, IsFileWord, task_seen};
+ghost use Rattle.ghes_replay.specs.Told.{IsAccepted, HasBadTable, HasUnserved, HasBadScript};
 ghost use Rattle.ghes_replay.specs.Views.{done_of};
 
-use crate::doing::{Done, check, decode, replay};
-use crate::exit::{InputFile, MEMORY_LINE, Refusal};
+use crate::check::check;
+use crate::decode::decode;
+use crate::done::{Done, done_status};
+use crate::exit::{MEMORY_LINE, Refusal};
 use crate::putting::end_with;
+use crate::replay::replay;
 use crate::task::{Task, task_of};
 use ghes_outside::{Files, Sink};
-use ghes_serial::{Ledger, PanicEntry};
+use ghes_serial::Ledger;
 use std::alloc::Global;
 
 /// How a run ended.
@@ -26,25 +29,20 @@ pub struct RunEnd {
     pub ledger: Option<Ledger>,
 }
 
-// What the words ask for.
-fn answer<F: Files>(alloc: Global, words: &[String], files: &mut F) -> Result<Done, Refusal>
-    ensures { Answers (map string_bytes words.now)
-        (files_seen (F.contents files.old) (F.failed files.old) (F.faults files.old))
-        (files_seen (F.contents files.new) (F.failed files.new) (F.faults files.new))
-        (done_of result) }
+// Does a task.
+fn answer<F: Files>(alloc: Global, task: Task<'_>, files: &mut F) -> Result<Done, Refusal>
+    ensures { Does (F.seen files.old) (F.seen files.new) (task_seen task.entry) (done_of result) }
 {
-    match task_of(words) {
-        Some(Task::Replay { hest, script }) => replay(alloc, files, hest, script),
-        Some(Task::Check { hest, einj }) => check(alloc, files, hest, einj),
-        Some(Task::Decode { block }) => decode(alloc, files, block),
-        None => Err(Refusal::Usage),
+    match task {
+        Task::Replay { hest, script } => replay(alloc, files, hest, script),
+        Task::Check { hest, einj } => check(alloc, files, hest, einj),
+        Task::Decode { block } => decode(alloc, files, block),
     }
 }
 
-// Puts the line of a refusal, where `name` is the name of the file that it is about.
-fn refuse<K: Sink>(alloc: Global, out: &mut K, name: &str, refusal: Refusal) -> RunEnd
-    ensures { RefusedBy (sink_seen (K.written out.old) (K.faults out.old)) (sink_seen (K.written out.new) (K.faults out.new))
-        name.now refusal result.status result.ledger }
+/// Puts the line of a refusal, where `name` is the name of the file that it is about.
+pub(crate) fn refuse<K: Sink>(alloc: Global, out: &mut K, name: &str, refusal: Refusal) -> RunEnd
+    ensures { RefusedBy (K.seen out.old) (K.seen out.new) name.now refusal result }
 {
     match refusal.line(alloc, name) {
         Ok(line) => end_with(out, line.as_bytes(), refusal.status(), None),
@@ -52,37 +50,27 @@ fn refuse<K: Sink>(alloc: Global, out: &mut K, name: &str, refusal: Refusal) -> 
     }
 }
 
-// Whether a panic list has a fatal block.
-fn has_fatal(entries: &[PanicEntry]) -> bool
-    ensures { result ≡ list_any (λ entry. entry.fatal) entries.now }
+// Does a task, and puts its text or the line of its refusal.
+fn run_task<F: Files, K: Sink>(alloc: Global, task: Task<'_>, files: &mut F, out: &mut K) -> RunEnd
+    ensures ends { EndsTask (task_seen task.entry) (outside (F.seen files.old) (K.seen out.old))
+        (outside (F.seen files.new) (K.seen out.new)) result }
+    ensures loads { Loads (IsFileOf (task_seen task.entry)) (F.seen files.old) (F.seen files.new) }
 {
-    entries.iter().any(|entry| entry.fatal)
-}
-
-// The status of what was done: 1 where the ledger has a fatal block.
-fn done_status(ledger: &Option<Ledger>) -> u8
-    ensures { result ≡ done_status ledger.now }
-{
-    match ledger {
-        Some(ledger) if has_fatal(ledger.panic_list()) => 1,
-        _ => 0,
+    match answer(alloc, task, files) {
+        Ok(Done { ledger, text }) => end_with(out, &text, done_status(&ledger), ledger),
+        Err(refusal) => refuse(alloc, out, task.refused_name(refusal), refusal),
     }
 }
 
 // Does what the words ask for, and puts its text or the line of its refusal.
 fn run<F: Files, K: Sink>(alloc: Global, words: &[String], files: &mut F, out: &mut K) -> RunEnd
-    ensures ends { EndsBy (map string_bytes words.now)
-        (files_seen (F.contents files.old) (F.failed files.old) (F.faults files.old))
-        (files_seen (F.contents files.new) (F.failed files.new) (F.faults files.new))
-        (sink_seen (K.written out.old) (K.faults out.old)) (sink_seen (K.written out.new) (K.faults out.new))
-        result.status result.ledger }
-    ensures loads { Loads (IsFileWord (map string_bytes words.now))
-        (files_seen (F.contents files.old) (F.failed files.old) (F.faults files.old))
-        (files_seen (F.contents files.new) (F.failed files.new) (F.faults files.new)) }
+    ensures ends { EndsBy (map string_bytes words.now) (outside (F.seen files.old) (K.seen out.old))
+        (outside (F.seen files.new) (K.seen out.new)) result }
+    ensures loads { Loads (IsFileWord (map string_bytes words.now)) (F.seen files.old) (F.seen files.new) }
 {
-    match answer(alloc, words, files) {
-        Ok(Done { ledger, text }) => end_with(out, &text, done_status(&ledger), ledger),
-        Err(refusal) => refuse(alloc, out, refusal.word(words), refusal),
+    match task_of(words) {
+        Some(task) => run_task(alloc, task, files, out),
+        None => refuse(alloc, out, "", Refusal::Usage),
     }
 }
 
@@ -100,93 +88,33 @@ pub fn ghes_run<F: Files, K: Sink>(
 ) -> RunEnd
     // How it ends: with the text of what was done, which is that of a lawful ledger, of accepted tables or of a judged
     // block, or with the line of a refusal that has its cause.
-    ensures ends { EndsBy (map string_bytes words.now)
-        (files_seen (F.contents files.old) (F.failed files.old) (F.faults files.old))
-        (files_seen (F.contents files.new) (F.failed files.new) (F.faults files.new))
-        (sink_seen (K.written out.old) (K.faults out.old)) (sink_seen (K.written out.new) (K.faults out.new))
-        result.status result.ledger }
-    // At the statuses 0 and 1 what was asked for is done, and the bytes put are its text; a replay has a ledger, which is lawful, and
-    // status 1 comes exactly where that has a fatal block.
-    ensures done { result.status < 2 → (result.status ≡ done_status result.ledger) × PutsText (map string_bytes words.now)
-        (files_seen (F.contents files.old) (F.failed files.old) (F.faults files.old))
-        (sink_seen (K.written out.old) (K.faults out.old)) (sink_seen (K.written out.new) (K.faults out.new))
-        result.ledger }
+    ensures ends { EndsBy (map string_bytes words.now) (outside (F.seen files.old) (K.seen out.old))
+        (outside (F.seen files.new) (K.seen out.new)) result }
+    // At the statuses 0 and 1 what was asked for is done, and the bytes put are its text; a replay has a ledger, which is
+    // lawful, and status 1 comes exactly where that has a fatal block.
+    ensures done { result.status < 2 → (result.status ≡ done_status result.ledger)
+        × PutsText (map string_bytes words.now) (outside (F.seen files.old) (K.seen out.old))
+        (outside (F.seen files.new) (K.seen out.new)) result.ledger }
     ensures statuses { IsTrue (is_status result.status) }
-    ensures put_failed { result.status ≡ 6 → Rose (K.faults out.old) (K.faults out.new) }
+    ensures put_failed { result.status ≡ 6 → Rose (K.seen out.old).faults (K.seen out.new).faults }
     // The failed names are words of this run that stand for files, and no contents change.
-    ensures loads { Loads (IsFileWord (map string_bytes words.now))
-        (files_seen (F.contents files.old) (F.failed files.old) (F.faults files.old))
-        (files_seen (F.contents files.new) (F.failed files.new) (F.faults files.new)) }
+    ensures loads { Loads (IsFileWord (map string_bytes words.now)) (F.seen files.old) (F.seen files.new) }
+    // Where a load failed, the run is refused for it, unless the output fails or memory runs out.
+    ensures failed { (NoneFailed (F.seen files.old) (F.seen files.new) → ⊥) → IsUnlessFault result.status 5 }
     // Words that ask for nothing, a refused table or injection table, a table that is not served so far and a refused
     // script get their status, unless the output fails or memory runs out.
-    ensures bad_words { ((task : Asked) → IsTask (map string_bytes words.now) task → ⊥) → IsUnlessFault result.status 2 }
-    ensures bad_table { HasBadTable (map string_bytes words.now)
-        (files_seen (F.contents files.old) (F.failed files.old) (F.faults files.old))
-        (files_seen (F.contents files.new) (F.failed files.new) (F.faults files.new)) → IsUnlessFault result.status 3 }
-    ensures not_built { HasUnserved (map string_bytes words.now)
-        (files_seen (F.contents files.old) (F.failed files.old) (F.faults files.old))
-        (files_seen (F.contents files.new) (F.failed files.new) (F.faults files.new)) → IsUnlessFault result.status 3 }
-    ensures bad_script { HasBadScript (map string_bytes words.now)
-        (files_seen (F.contents files.old) (F.failed files.old) (F.faults files.old))
-        (files_seen (F.contents files.new) (F.failed files.new) (F.faults files.new)) → IsUnlessFault result.status 4 }
+    ensures bad_words { AskNothing (map string_bytes words.now) → IsUnlessFault result.status 2 }
+    ensures bad_table { HasBadTable (map string_bytes words.now) (F.seen files.old) (F.seen files.new)
+        → IsUnlessFault result.status 3 }
+    ensures not_built { HasUnserved (map string_bytes words.now) (F.seen files.old) (F.seen files.new)
+        → IsUnlessFault result.status 3 }
+    ensures bad_script { HasBadScript (map string_bytes words.now) (F.seen files.old) (F.seen files.new)
+        → IsUnlessFault result.status 4 }
     // What is accepted is done, unless memory runs out.
-    ensures complete { IsAccepted (map string_bytes words.now)
-        (files_seen (F.contents files.old) (F.failed files.old) (F.faults files.old))
-        (files_seen (F.contents files.new) (F.failed files.new) (F.faults files.new))
-        (sink_seen (K.written out.old) (K.faults out.old)) (sink_seen (K.written out.new) (K.faults out.new))
-        → (result.status ≡ done_status result.ledger) ⊎ (result.status ≡ 7) }
+    ensures complete { IsAccepted (map string_bytes words.now) (outside (F.seen files.old) (K.seen out.old))
+        (outside (F.seen files.new) (K.seen out.new)) → (result.status ≡ done_status result.ledger) ⊎ (result.status ≡ 7) }
 {
     run(alloc, words, files, out)
-}
-
-// What the words `check HEST EINJ` ask for.
-fn answer_check<F: Files>(
-    alloc: Global,
-    hest: &str,
-    einj: &str,
-    files: &mut F,
-) -> Result<Done, Refusal>
-    ensures { Answers (codes "check" ∷ hest.now ∷ einj.now ∷ [])
-        (files_seen (F.contents files.old) (F.failed files.old) (F.faults files.old))
-        (files_seen (F.contents files.new) (F.failed files.new) (F.faults files.new))
-        (done_of result) }
-{
-    check(alloc, files, hest, einj)
-}
-
-// The name in the line of a refusal of the words `check HEST EINJ`.
-fn listed_name<'a>(hest: &'a str, einj: &'a str, refusal: Refusal) -> &'a str
-    ensures { result.now ≡ refused_word (codes "check" ∷ hest.now ∷ einj.now ∷ []) refusal }
-{
-    match refusal {
-        Refusal::Load(InputFile::Hest | InputFile::Block, _) => hest,
-        Refusal::Hest(_) | Refusal::NotBuilt => hest,
-        Refusal::Load(InputFile::Einj, _) | Refusal::Einj(_) => einj,
-        _ => "",
-    }
-}
-
-// Lists tables, and puts the text or the line of the refusal.
-fn list<F: Files, K: Sink>(
-    alloc: Global,
-    hest: &str,
-    einj: &str,
-    files: &mut F,
-    out: &mut K,
-) -> RunEnd
-    ensures ends { EndsBy (codes "check" ∷ hest.now ∷ einj.now ∷ [])
-        (files_seen (F.contents files.old) (F.failed files.old) (F.faults files.old))
-        (files_seen (F.contents files.new) (F.failed files.new) (F.faults files.new))
-        (sink_seen (K.written out.old) (K.faults out.old)) (sink_seen (K.written out.new) (K.faults out.new))
-        result.status result.ledger }
-    ensures loads { Loads (IsFileWord (codes "check" ∷ hest.now ∷ einj.now ∷ []))
-        (files_seen (F.contents files.old) (F.failed files.old) (F.faults files.old))
-        (files_seen (F.contents files.new) (F.failed files.new) (F.faults files.new)) }
-{
-    match answer_check(alloc, hest, einj, files) {
-        Ok(Done { ledger, text }) => end_with(out, &text, done_status(&ledger), ledger),
-        Err(refusal) => refuse(alloc, out, listed_name(hest, einj, refusal), refusal),
-    }
 }
 
 /// Lists the error sources of the table in the file `hest`, and how many entries the injection table in the file `einj`
@@ -203,56 +131,20 @@ pub fn check_run<F: Files, K: Sink>(
     out: &mut K,
 ) -> u8
     // Each clause is that of `ghes_run` with the words `check HEST EINJ`.
-    ensures ends { EndsBy (codes "check" ∷ hest.now ∷ einj.now ∷ [])
-        (files_seen (F.contents files.old) (F.failed files.old) (F.faults files.old))
-        (files_seen (F.contents files.new) (F.failed files.new) (F.faults files.new))
-        (sink_seen (K.written out.old) (K.faults out.old)) (sink_seen (K.written out.new) (K.faults out.new))
-        result None }
+    ensures ends { EndsBy (codes "check" ∷ hest.now ∷ einj.now ∷ []) (outside (F.seen files.old) (K.seen out.old))
+        (outside (F.seen files.new) (K.seen out.new)) (bare_end result) }
     ensures done { result ≡ 0 → PutsText (codes "check" ∷ hest.now ∷ einj.now ∷ [])
-        (files_seen (F.contents files.old) (F.failed files.old) (F.faults files.old))
-        (sink_seen (K.written out.old) (K.faults out.old)) (sink_seen (K.written out.new) (K.faults out.new)) None }
+        (outside (F.seen files.old) (K.seen out.old)) (outside (F.seen files.new) (K.seen out.new)) None }
     ensures statuses { IsTrue (is_check_status result) }
-    ensures put_failed { result ≡ 6 → Rose (K.faults out.old) (K.faults out.new) }
-    ensures loads { Loads (IsFileWord (codes "check" ∷ hest.now ∷ einj.now ∷ []))
-        (files_seen (F.contents files.old) (F.failed files.old) (F.faults files.old))
-        (files_seen (F.contents files.new) (F.failed files.new) (F.faults files.new)) }
-    ensures bad_table { HasBadTable (codes "check" ∷ hest.now ∷ einj.now ∷ [])
-        (files_seen (F.contents files.old) (F.failed files.old) (F.faults files.old))
-        (files_seen (F.contents files.new) (F.failed files.new) (F.faults files.new)) → IsUnlessFault result 3 }
-    ensures complete { IsAccepted (codes "check" ∷ hest.now ∷ einj.now ∷ [])
-        (files_seen (F.contents files.old) (F.failed files.old) (F.faults files.old))
-        (files_seen (F.contents files.new) (F.failed files.new) (F.faults files.new))
-        (sink_seen (K.written out.old) (K.faults out.old)) (sink_seen (K.written out.new) (K.faults out.new))
-        → (result ≡ 0) ⊎ (result ≡ 7) }
+    ensures put_failed { result ≡ 6 → Rose (K.seen out.old).faults (K.seen out.new).faults }
+    ensures loads { Loads (IsFileWord (codes "check" ∷ hest.now ∷ einj.now ∷ [])) (F.seen files.old) (F.seen files.new) }
+    ensures failed { (NoneFailed (F.seen files.old) (F.seen files.new) → ⊥) → IsUnlessFault result 5 }
+    ensures bad_table { HasBadTable (codes "check" ∷ hest.now ∷ einj.now ∷ []) (F.seen files.old) (F.seen files.new)
+        → IsUnlessFault result 3 }
+    ensures complete { IsAccepted (codes "check" ∷ hest.now ∷ einj.now ∷ []) (outside (F.seen files.old) (K.seen out.old))
+        (outside (F.seen files.new) (K.seen out.new)) → (result ≡ 0) ⊎ (result ≡ 7) }
 {
-    list(alloc, hest, einj, files, out).status
-}
-
-// What the words `decode BLOCK` ask for.
-fn answer_decode<F: Files>(alloc: Global, block: &str, files: &mut F) -> Result<Done, Refusal>
-    ensures { Answers (codes "decode" ∷ block.now ∷ [])
-        (files_seen (F.contents files.old) (F.failed files.old) (F.faults files.old))
-        (files_seen (F.contents files.new) (F.failed files.new) (F.faults files.new))
-        (done_of result) }
-{
-    decode(alloc, files, block)
-}
-
-// Decodes a block, and puts the text or the line of the refusal.
-fn print_block<F: Files, K: Sink>(alloc: Global, block: &str, files: &mut F, out: &mut K) -> RunEnd
-    ensures ends { EndsBy (codes "decode" ∷ block.now ∷ [])
-        (files_seen (F.contents files.old) (F.failed files.old) (F.faults files.old))
-        (files_seen (F.contents files.new) (F.failed files.new) (F.faults files.new))
-        (sink_seen (K.written out.old) (K.faults out.old)) (sink_seen (K.written out.new) (K.faults out.new))
-        result.status result.ledger }
-    ensures loads { Loads (IsFileWord (codes "decode" ∷ block.now ∷ []))
-        (files_seen (F.contents files.old) (F.failed files.old) (F.faults files.old))
-        (files_seen (F.contents files.new) (F.failed files.new) (F.faults files.new)) }
-{
-    match answer_decode(alloc, block, files) {
-        Ok(Done { ledger, text }) => end_with(out, &text, done_status(&ledger), ledger),
-        Err(refusal) => refuse(alloc, out, block, refusal),
-    }
+    run_task(alloc, Task::Check { hest, einj }, files, out).status
 }
 
 /// Prints the block at the front of the file `block`, as the program does for the words `decode BLOCK`, and gives the
@@ -262,24 +154,16 @@ fn print_block<F: Files, K: Sink>(alloc: Global, block: &str, files: &mut F, out
 /// block are no refusal: the reason is printed. It neither waits nor starts threads, and it returns.
 pub fn decode_run<F: Files, K: Sink>(alloc: Global, block: &str, files: &mut F, out: &mut K) -> u8
     // Each clause is that of `ghes_run` with the words `decode BLOCK`.
-    ensures ends { EndsBy (codes "decode" ∷ block.now ∷ [])
-        (files_seen (F.contents files.old) (F.failed files.old) (F.faults files.old))
-        (files_seen (F.contents files.new) (F.failed files.new) (F.faults files.new))
-        (sink_seen (K.written out.old) (K.faults out.old)) (sink_seen (K.written out.new) (K.faults out.new))
-        result None }
+    ensures ends { EndsBy (codes "decode" ∷ block.now ∷ []) (outside (F.seen files.old) (K.seen out.old))
+        (outside (F.seen files.new) (K.seen out.new)) (bare_end result) }
     ensures done { result ≡ 0 → PutsText (codes "decode" ∷ block.now ∷ [])
-        (files_seen (F.contents files.old) (F.failed files.old) (F.faults files.old))
-        (sink_seen (K.written out.old) (K.faults out.old)) (sink_seen (K.written out.new) (K.faults out.new)) None }
+        (outside (F.seen files.old) (K.seen out.old)) (outside (F.seen files.new) (K.seen out.new)) None }
     ensures statuses { IsTrue (is_decode_status result) }
-    ensures put_failed { result ≡ 6 → Rose (K.faults out.old) (K.faults out.new) }
-    ensures loads { Loads (IsFileWord (codes "decode" ∷ block.now ∷ []))
-        (files_seen (F.contents files.old) (F.failed files.old) (F.faults files.old))
-        (files_seen (F.contents files.new) (F.failed files.new) (F.faults files.new)) }
-    ensures complete { IsAccepted (codes "decode" ∷ block.now ∷ [])
-        (files_seen (F.contents files.old) (F.failed files.old) (F.faults files.old))
-        (files_seen (F.contents files.new) (F.failed files.new) (F.faults files.new))
-        (sink_seen (K.written out.old) (K.faults out.old)) (sink_seen (K.written out.new) (K.faults out.new))
-        → (result ≡ 0) ⊎ (result ≡ 7) }
+    ensures put_failed { result ≡ 6 → Rose (K.seen out.old).faults (K.seen out.new).faults }
+    ensures loads { Loads (IsFileWord (codes "decode" ∷ block.now ∷ [])) (F.seen files.old) (F.seen files.new) }
+    ensures failed { (NoneFailed (F.seen files.old) (F.seen files.new) → ⊥) → IsUnlessFault result 5 }
+    ensures complete { IsAccepted (codes "decode" ∷ block.now ∷ []) (outside (F.seen files.old) (K.seen out.old))
+        (outside (F.seen files.new) (K.seen out.new)) → (result ≡ 0) ⊎ (result ≡ 7) }
 {
-    print_block(alloc, block, files, out).status
+    run_task(alloc, Task::Decode { block }, files, out).status
 }

@@ -1,3 +1,4 @@
+//! Which source of a table a replay serves so far.
 ghost use Rattle.std.specs.Prelude.{◌≡◌};
 ghost use Rattle.ghes_replay.specs.Served.{has_wide_status, is_served, served};
 

@@ -1,6 +1,10 @@
+//! What the words of the command line ask for.
 ghost use Rattle.std.specs.Prelude.{◌≡◌, ℕ, List, MatchOption, map};
 ghost use Rattle.std.specs.String.{string_bytes};
-ghost use Rattle.ghes_replay.specs.Task.{Task as Asked, Replay as AskedReplay, Check as AskedCheck, Decode as AskedDecode, IsTask, task_seen};
+ghost use Rattle.ghes_replay.specs.Task.{Task as Asked, Replay as AskedReplay, Check as AskedCheck, Decode as AskedDecode, IsTask, file_of, task_seen};
+ghost use Rattle.ghes_replay.specs.Refusal.{refused_name};
+
+use crate::{InputFile, Refusal};
 
 /// What the words of the command line ask for, with the names of the files.
 #[derive(Clone, Copy)]
@@ -11,6 +15,40 @@ pub(crate) enum Task<'a> {
     Check { hest: &'a str, einj: &'a str },
     /// To print a block.
     Decode { block: &'a str },
+}
+
+impl<'a> Task<'a> {
+    // The name of its file of this kind, empty where it has none.
+    fn name(self, kind: InputFile) -> &'a str
+        ensures { result.now ≡ file_of (task_seen self.entry) kind }
+    {
+        match self {
+            Task::Replay { hest, script } => match kind {
+                InputFile::Hest => hest,
+                InputFile::Script => script,
+                InputFile::Einj | InputFile::Block => "",
+            },
+            Task::Check { hest, einj } => match kind {
+                InputFile::Hest => hest,
+                InputFile::Einj => einj,
+                InputFile::Script | InputFile::Block => "",
+            },
+            Task::Decode { block } => match kind {
+                InputFile::Block => block,
+                InputFile::Hest | InputFile::Einj | InputFile::Script => "",
+            },
+        }
+    }
+
+    /// The name of the file in the line of a refusal.
+    pub(crate) fn refused_name(self, refusal: Refusal) -> &'a str
+        ensures { result.now ≡ refused_name (task_seen self.entry) refusal }
+    {
+        match refusal {
+            Refusal::Load(file, _) => self.name(file),
+            _ => "",
+        }
+    }
 }
 
 // The names of the table and of the script in the words `replay HEST - SCRIPT`.

@@ -247,15 +247,12 @@ fn the_ledger_has_the_calls_the_blocks_the_reports_and_the_marks(
     let words = ["replay", "hest", "-", "fates"];
     let ran = ask(alloc, &words, all_files(alloc, &[])?, &[])?;
     let ledger = ran.end.ledger.ok_or("no ledger")?;
-    let (calls, taken, marks) = (&ledger.calls, &ledger.taken, &ledger.marks);
-    assert_eq!(rt;
-        (calls.len(), taken.len(), ledger.reports.len(), marks.len()),
-        (3, 2, 1, 7)
-    );
-    assert_eq!(rt; calls[0].reply.outcome, Outcome::Queued(1));
+    assert_eq!(rt; ledger.calls.len(), 3);
+    assert_eq!(rt; ledger.calls[0].reply.outcome, Outcome::Queued(1));
+    assert_eq!(rt; ledger.taken.len(), 2);
     assert!(rt;
         matches!(
-            &taken[0],
+            &ledger.taken[0],
             Taken::Delivered {
                 seq: 1,
                 reported: Reported::New(1),
@@ -263,9 +260,12 @@ fn the_ledger_has_the_calls_the_blocks_the_reports_and_the_marks(
             }
         )
     );
-    assert!(rt; matches!(&taken[1], Taken::Dropped { seq: 2, .. }));
-    assert_eq!(rt; (marks[4].line, marks[4].calls, marks[4].taken), (5, 2, 2));
-    assert_eq!(rt; (marks[6].line, marks[6].calls, marks[6].taken), (0, 3, 2));
+    assert!(rt; matches!(&ledger.taken[1], Taken::Dropped { seq: 2, .. }));
+    assert_eq!(rt; ledger.reports.len(), 1);
+    // A mark for each of the six lines, and one for the end.
+    assert_eq!(rt; ledger.marks.len(), 7);
+    let end = &ledger.marks[6];
+    assert_eq!(rt; (end.line, end.calls, end.taken), (0, 3, 2));
     Ok(())
 }
 

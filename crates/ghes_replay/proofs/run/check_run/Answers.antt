@@ -1,30 +1,55 @@
 -- What follows from how a listing ends.
-use Rattle.ghes_replay.specs.Seen.{files_seen}
-use Rattle.ghes_replay.proofs.EndLemmas.{is_complete, is_listed, bad_table}
-use Rattle.ghes_replay.proofs.PrintLemmas.{list_ends, no_replay, check_statuses}
+use Rattle.std.proofs.Common.{◌∷◌, [], codes, refl}
+use Rattle.ghes_replay.specs.Run.{bare_end}
+use Rattle.ghes_replay.specs.Seen.{outside}
+use Rattle.ghes_replay.specs.Task.{Check, IsFileOf, IsFileWord}
+use Rattle.ghes_replay.proofs.BareLemmas.{check_ends, check_statuses}
+use Rattle.ghes_replay.proofs.EndLemmas.{bad_table, failed_load, is_complete, is_listed, put_failed}
+use Rattle.ghes_replay.proofs.LoadLemmas.{loads_weaker}
 use Rattle.ghes_replay.proofs.run.check_run.Goals as goal
 
 pub returns-clause-ends : goal.returns-clause-ends
 returns-clause-ends g c =
-    list_ends _ _
-    (files_seen (g.F.Files.contents c.list.new.files) (g.F.Files.failed c.list.new.files) (g.F.Files.faults c.list.new.files))
-    _ _ _ _ (no_replay c.args.hest.now c.args.einj.now) c.list.ensures.ends
+    let before = outside (g.F.Files.seen c.args.files.now) (g.K.Sink.seen c.args.out.now) in
+    let after = outside (g.F.Files.seen c.run_task.new.files) (g.K.Sink.seen c.run_task.new.out) in
+    check_ends c.args.hest.now c.args.einj.now before after c.run_task.result c.run_task.ensures.ends
 
 pub returns-clause-done : goal.returns-clause-done
 returns-clause-done g c =
-    let after = files_seen (g.F.Files.contents c.list.new.files) (g.F.Files.failed c.list.new.files) (g.F.Files.faults c.list.new.files) in
-    is_listed _ _ after _ _ _ (list_ends _ _ after _ _ _ _ (no_replay c.args.hest.now c.args.einj.now) c.list.ensures.ends)
+    let before = outside (g.F.Files.seen c.args.files.now) (g.K.Sink.seen c.args.out.now) in
+    let after = outside (g.F.Files.seen c.run_task.new.files) (g.K.Sink.seen c.run_task.new.out) in
+    is_listed (codes "check" ∷ c.args.hest.now ∷ c.args.einj.now ∷ []) before after c.run_task.result.status (check_ends c.args.hest.now c.args.einj.now before after c.run_task.result c.run_task.ensures.ends)
 
 pub returns-clause-statuses : goal.returns-clause-statuses
 returns-clause-statuses g c =
-    check_statuses c.args.hest.now c.args.einj.now _
-    (files_seen (g.F.Files.contents c.list.new.files) (g.F.Files.failed c.list.new.files) (g.F.Files.faults c.list.new.files))
-    _ _ _ _ c.list.ensures.ends
+    let before = outside (g.F.Files.seen c.args.files.now) (g.K.Sink.seen c.args.out.now) in
+    let after = outside (g.F.Files.seen c.run_task.new.files) (g.K.Sink.seen c.run_task.new.out) in
+    check_statuses c.args.hest.now c.args.einj.now before after c.run_task.result c.run_task.ensures.ends
+
+pub returns-clause-put_failed : goal.returns-clause-put_failed
+returns-clause-put_failed g c =
+    let before = outside (g.F.Files.seen c.args.files.now) (g.K.Sink.seen c.args.out.now) in
+    let after = outside (g.F.Files.seen c.run_task.new.files) (g.K.Sink.seen c.run_task.new.out) in
+    put_failed (codes "check" ∷ c.args.hest.now ∷ c.args.einj.now ∷ []) before after (bare_end c.run_task.result.status) (check_ends c.args.hest.now c.args.einj.now before after c.run_task.result c.run_task.ensures.ends)
+
+pub returns-clause-loads : goal.returns-clause-loads
+returns-clause-loads g c =
+    loads_weaker (IsFileOf (Check c.args.hest.now c.args.einj.now)) (IsFileWord (codes "check" ∷ c.args.hest.now ∷ c.args.einj.now ∷ [])) _ _ (λ name is. (Check c.args.hest.now c.args.einj.now, refl, is)) c.run_task.ensures.loads
+
+pub returns-clause-failed : goal.returns-clause-failed
+returns-clause-failed g c =
+    let before = outside (g.F.Files.seen c.args.files.now) (g.K.Sink.seen c.args.out.now) in
+    let after = outside (g.F.Files.seen c.run_task.new.files) (g.K.Sink.seen c.run_task.new.out) in
+    failed_load (codes "check" ∷ c.args.hest.now ∷ c.args.einj.now ∷ []) before after (bare_end c.run_task.result.status) (check_ends c.args.hest.now c.args.einj.now before after c.run_task.result c.run_task.ensures.ends)
 
 pub returns-clause-bad_table : goal.returns-clause-bad_table
-returns-clause-bad_table g c = bad_table _ _ _ _ _ _ _ c.list.ensures.ends
+returns-clause-bad_table g c =
+    let before = outside (g.F.Files.seen c.args.files.now) (g.K.Sink.seen c.args.out.now) in
+    let after = outside (g.F.Files.seen c.run_task.new.files) (g.K.Sink.seen c.run_task.new.out) in
+    bad_table (codes "check" ∷ c.args.hest.now ∷ c.args.einj.now ∷ []) before after (bare_end c.run_task.result.status) (check_ends c.args.hest.now c.args.einj.now before after c.run_task.result c.run_task.ensures.ends)
 
 pub returns-clause-complete : goal.returns-clause-complete
 returns-clause-complete g c =
-    let after = files_seen (g.F.Files.contents c.list.new.files) (g.F.Files.failed c.list.new.files) (g.F.Files.faults c.list.new.files) in
-    is_complete _ _ after _ _ _ _ (list_ends _ _ after _ _ _ _ (no_replay c.args.hest.now c.args.einj.now) c.list.ensures.ends)
+    let before = outside (g.F.Files.seen c.args.files.now) (g.K.Sink.seen c.args.out.now) in
+    let after = outside (g.F.Files.seen c.run_task.new.files) (g.K.Sink.seen c.run_task.new.out) in
+    is_complete (codes "check" ∷ c.args.hest.now ∷ c.args.einj.now ∷ []) before after (bare_end c.run_task.result.status) (check_ends c.args.hest.now c.args.einj.now before after c.run_task.result c.run_task.ensures.ends)

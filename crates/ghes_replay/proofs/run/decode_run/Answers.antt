@@ -1,27 +1,49 @@
 -- What follows from how the text of a block ends.
-use Rattle.ghes_replay.specs.Seen.{files_seen}
-use Rattle.ghes_replay.proofs.EndLemmas.{is_complete, is_listed}
-use Rattle.ghes_replay.proofs.PrintLemmas.{list_ends, decode_no_replay, decode_statuses}
+use Rattle.std.proofs.Common.{◌∷◌, [], codes, refl}
+use Rattle.ghes_replay.specs.Run.{bare_end}
+use Rattle.ghes_replay.specs.Seen.{outside}
+use Rattle.ghes_replay.specs.Task.{Decode, IsFileOf, IsFileWord}
+use Rattle.ghes_replay.proofs.BareLemmas.{decode_ends, decode_statuses}
+use Rattle.ghes_replay.proofs.EndLemmas.{failed_load, is_complete, is_listed, put_failed}
+use Rattle.ghes_replay.proofs.LoadLemmas.{loads_weaker}
 use Rattle.ghes_replay.proofs.run.decode_run.Goals as goal
 
 pub returns-clause-ends : goal.returns-clause-ends
 returns-clause-ends g c =
-    list_ends _ _
-    (files_seen (g.F.Files.contents c.print_block.new.files) (g.F.Files.failed c.print_block.new.files) (g.F.Files.faults c.print_block.new.files))
-    _ _ _ _ (decode_no_replay c.args.block.now) c.print_block.ensures.ends
+    let before = outside (g.F.Files.seen c.args.files.now) (g.K.Sink.seen c.args.out.now) in
+    let after = outside (g.F.Files.seen c.run_task.new.files) (g.K.Sink.seen c.run_task.new.out) in
+    decode_ends c.args.block.now before after c.run_task.result c.run_task.ensures.ends
 
 pub returns-clause-done : goal.returns-clause-done
 returns-clause-done g c =
-    let after = files_seen (g.F.Files.contents c.print_block.new.files) (g.F.Files.failed c.print_block.new.files) (g.F.Files.faults c.print_block.new.files) in
-    is_listed _ _ after _ _ _ (list_ends _ _ after _ _ _ _ (decode_no_replay c.args.block.now) c.print_block.ensures.ends)
+    let before = outside (g.F.Files.seen c.args.files.now) (g.K.Sink.seen c.args.out.now) in
+    let after = outside (g.F.Files.seen c.run_task.new.files) (g.K.Sink.seen c.run_task.new.out) in
+    is_listed (codes "decode" ∷ c.args.block.now ∷ []) before after c.run_task.result.status (decode_ends c.args.block.now before after c.run_task.result c.run_task.ensures.ends)
 
 pub returns-clause-statuses : goal.returns-clause-statuses
 returns-clause-statuses g c =
-    decode_statuses c.args.block.now _
-    (files_seen (g.F.Files.contents c.print_block.new.files) (g.F.Files.failed c.print_block.new.files) (g.F.Files.faults c.print_block.new.files))
-    _ _ _ _ c.print_block.ensures.ends
+    let before = outside (g.F.Files.seen c.args.files.now) (g.K.Sink.seen c.args.out.now) in
+    let after = outside (g.F.Files.seen c.run_task.new.files) (g.K.Sink.seen c.run_task.new.out) in
+    decode_statuses c.args.block.now before after c.run_task.result c.run_task.ensures.ends
+
+pub returns-clause-put_failed : goal.returns-clause-put_failed
+returns-clause-put_failed g c =
+    let before = outside (g.F.Files.seen c.args.files.now) (g.K.Sink.seen c.args.out.now) in
+    let after = outside (g.F.Files.seen c.run_task.new.files) (g.K.Sink.seen c.run_task.new.out) in
+    put_failed (codes "decode" ∷ c.args.block.now ∷ []) before after (bare_end c.run_task.result.status) (decode_ends c.args.block.now before after c.run_task.result c.run_task.ensures.ends)
+
+pub returns-clause-loads : goal.returns-clause-loads
+returns-clause-loads g c =
+    loads_weaker (IsFileOf (Decode c.args.block.now)) (IsFileWord (codes "decode" ∷ c.args.block.now ∷ [])) _ _ (λ name is. (Decode c.args.block.now, refl, is)) c.run_task.ensures.loads
+
+pub returns-clause-failed : goal.returns-clause-failed
+returns-clause-failed g c =
+    let before = outside (g.F.Files.seen c.args.files.now) (g.K.Sink.seen c.args.out.now) in
+    let after = outside (g.F.Files.seen c.run_task.new.files) (g.K.Sink.seen c.run_task.new.out) in
+    failed_load (codes "decode" ∷ c.args.block.now ∷ []) before after (bare_end c.run_task.result.status) (decode_ends c.args.block.now before after c.run_task.result c.run_task.ensures.ends)
 
 pub returns-clause-complete : goal.returns-clause-complete
 returns-clause-complete g c =
-    let after = files_seen (g.F.Files.contents c.print_block.new.files) (g.F.Files.failed c.print_block.new.files) (g.F.Files.faults c.print_block.new.files) in
-    is_complete _ _ after _ _ _ _ (list_ends _ _ after _ _ _ _ (decode_no_replay c.args.block.now) c.print_block.ensures.ends)
+    let before = outside (g.F.Files.seen c.args.files.now) (g.K.Sink.seen c.args.out.now) in
+    let after = outside (g.F.Files.seen c.run_task.new.files) (g.K.Sink.seen c.run_task.new.out) in
+    is_complete (codes "decode" ∷ c.args.block.now ∷ []) before after (bare_end c.run_task.result.status) (decode_ends c.args.block.now before after c.run_task.result c.run_task.ensures.ends)

@@ -1,28 +1,49 @@
 -- What follows from how a run ends.
-use Rattle.ghes_replay.specs.Seen.{files_seen}
-use Rattle.ghes_replay.proofs.EndLemmas.{is_complete, is_done, bad_words, bad_table, not_built, bad_script}
+use Rattle.ghes_replay.specs.Seen.{outside}
+use Rattle.ghes_replay.proofs.EndLemmas.{bad_script, bad_table, bad_words, failed_load, is_complete, is_done, not_built, put_failed, statuses}
 use Rattle.ghes_replay.proofs.run.ghes_run.Goals as goal
-
-pub returns-clause-complete : goal.returns-clause-complete
-returns-clause-complete g c = is_complete _ _ _ _ _ _ _ c.run.ensures.ends
-
-pub returns-clause-bad_words : goal.returns-clause-bad_words
-returns-clause-bad_words g c =
-    bad_words _ _
-    (files_seen (g.F.Files.contents c.run.new.files) (g.F.Files.failed c.run.new.files) (g.F.Files.faults c.run.new.files))
-    _ _ _ _ c.run.ensures.ends
-
-pub returns-clause-bad_table : goal.returns-clause-bad_table
-returns-clause-bad_table g c = bad_table _ _ _ _ _ _ _ c.run.ensures.ends
-
-pub returns-clause-bad_script : goal.returns-clause-bad_script
-returns-clause-bad_script g c = bad_script _ _ _ _ _ _ _ c.run.ensures.ends
-
-pub returns-clause-not_built : goal.returns-clause-not_built
-returns-clause-not_built g c = not_built _ _ _ _ _ _ _ c.run.ensures.ends
 
 pub returns-clause-done : goal.returns-clause-done
 returns-clause-done g c =
-    is_done _ _
-    (files_seen (g.F.Files.contents c.run.new.files) (g.F.Files.failed c.run.new.files) (g.F.Files.faults c.run.new.files))
-    _ _ _ _ c.run.ensures.ends
+    is_done _ (outside (g.F.Files.seen c.args.files.now) (g.K.Sink.seen c.args.out.now))
+    (outside (g.F.Files.seen c.run.new.files) (g.K.Sink.seen c.run.new.out)) c.run.result c.run.ensures.ends
+
+pub returns-clause-statuses : goal.returns-clause-statuses
+returns-clause-statuses g c =
+    statuses _ (outside (g.F.Files.seen c.args.files.now) (g.K.Sink.seen c.args.out.now))
+    (outside (g.F.Files.seen c.run.new.files) (g.K.Sink.seen c.run.new.out)) c.run.result c.run.ensures.ends
+
+pub returns-clause-put_failed : goal.returns-clause-put_failed
+returns-clause-put_failed g c =
+    put_failed _ (outside (g.F.Files.seen c.args.files.now) (g.K.Sink.seen c.args.out.now))
+    (outside (g.F.Files.seen c.run.new.files) (g.K.Sink.seen c.run.new.out)) c.run.result c.run.ensures.ends
+
+pub returns-clause-failed : goal.returns-clause-failed
+returns-clause-failed g c =
+    failed_load _ (outside (g.F.Files.seen c.args.files.now) (g.K.Sink.seen c.args.out.now))
+    (outside (g.F.Files.seen c.run.new.files) (g.K.Sink.seen c.run.new.out)) c.run.result c.run.ensures.ends
+
+pub returns-clause-bad_words : goal.returns-clause-bad_words
+returns-clause-bad_words g c =
+    bad_words _ (outside (g.F.Files.seen c.args.files.now) (g.K.Sink.seen c.args.out.now))
+    (outside (g.F.Files.seen c.run.new.files) (g.K.Sink.seen c.run.new.out)) c.run.result c.run.ensures.ends
+
+pub returns-clause-bad_table : goal.returns-clause-bad_table
+returns-clause-bad_table g c =
+    bad_table _ (outside (g.F.Files.seen c.args.files.now) (g.K.Sink.seen c.args.out.now))
+    (outside (g.F.Files.seen c.run.new.files) (g.K.Sink.seen c.run.new.out)) c.run.result c.run.ensures.ends
+
+pub returns-clause-not_built : goal.returns-clause-not_built
+returns-clause-not_built g c =
+    not_built _ (outside (g.F.Files.seen c.args.files.now) (g.K.Sink.seen c.args.out.now))
+    (outside (g.F.Files.seen c.run.new.files) (g.K.Sink.seen c.run.new.out)) c.run.result c.run.ensures.ends
+
+pub returns-clause-bad_script : goal.returns-clause-bad_script
+returns-clause-bad_script g c =
+    bad_script _ (outside (g.F.Files.seen c.args.files.now) (g.K.Sink.seen c.args.out.now))
+    (outside (g.F.Files.seen c.run.new.files) (g.K.Sink.seen c.run.new.out)) c.run.result c.run.ensures.ends
+
+pub returns-clause-complete : goal.returns-clause-complete
+returns-clause-complete g c =
+    is_complete _ (outside (g.F.Files.seen c.args.files.now) (g.K.Sink.seen c.args.out.now))
+    (outside (g.F.Files.seen c.run.new.files) (g.K.Sink.seen c.run.new.out)) c.run.result c.run.ensures.ends

@@ -1,12 +1,11 @@
 -- The parts of the replay, in order.
 use Rattle.ghes_replay.specs.Views.{done_of}
-use Rattle.ghes_replay.proofs.AnswerLemmas.{replay_without_source}
-use Rattle.ghes_replay.proofs.RunLemmas.{all_of_first, replay_refused, replay_goes}
-use Rattle.ghes_replay.proofs.doing.replay.Goals as goal
+use Rattle.ghes_replay.proofs.DoneLemmas.{all_of_first, replay_refused, replay_goes}
+use Rattle.ghes_replay.proofs.replay.replay.Goals as goal
 
 pub replay_lines-requires-clause-first : goal.replay_lines-requires-clause-first
 replay_lines-requires-clause-first g c =
-    let spelled = c.in-Ok-load_script.ensures.found in
+    let spelled = c.in-Ok-load_script.ensures.found.0 in
     rw c.deref.ensures.value (all_of_first c.in-Ok.ghes.id 1 spelled.0 c.in-Ok-load_script.lines.items spelled.2)
 
 pub returns-in-Ok-load_script : goal.returns-in-Ok-load_script
@@ -17,6 +16,3 @@ returns-in-Ok-load_script g c =
 pub returns-in-Err-load_script : goal.returns-in-Err-load_script
 returns-in-Err-load_script g c =
     replay_refused _ _ _ c.args.hest.now c.args.script.now c.in-Ok.ghes c.in-Err-load_script.refusal c.in-Ok.ensures c.in-Err-load_script.ensures
-
-pub returns-in-Err : goal.returns-in-Err
-returns-in-Err g c = replay_without_source _ _ c.args.hest.now c.args.script.now c.in-Err.refusal c.in-Err.ensures

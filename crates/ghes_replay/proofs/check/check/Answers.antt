@@ -1,7 +1,7 @@
 -- The parts of the listing, in order.
 use Rattle.ghes_replay.specs.Views.{done_of}
-use Rattle.ghes_replay.proofs.ListingLemmas.{listing_refused, listing_goes, listing_without_table}
-use Rattle.ghes_replay.proofs.doing.check.Goals as goal
+use Rattle.ghes_replay.proofs.DoneLemmas.{listing_refused, listing_goes}
+use Rattle.ghes_replay.proofs.check.check.Goals as goal
 
 pub returns-in-Ok-load_injection : goal.returns-in-Ok-load_injection
 returns-in-Ok-load_injection g c =
@@ -11,6 +11,3 @@ returns-in-Ok-load_injection g c =
 pub returns : goal.returns
 returns g c =
     listing_refused _ _ _ c.args.hest.now c.args.einj.now c.in-Ok.found c.in-Err-load_injection.refusal c.in-Ok.ensures c.in-Err-load_injection.ensures
-
-pub returns-in-Err : goal.returns-in-Err
-returns-in-Err g c = listing_without_table _ _ c.args.hest.now c.args.einj.now c.in-Err.refusal c.in-Err.ensures
