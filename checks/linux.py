@@ -1,31 +1,73 @@
 #!/usr/bin/env python3
-"""Holds the tables of docs/FORMATS.md against the headers of Linux 6.1, which come with a package linux-headers-6.1*-common.
+"""Holds the definitions against the headers of Linux 6.1, which come with a package linux-headers-6.1*-common.
 
-.ci/run runs it behind the gate; it is skipped where there are no such headers. Each row has to begin and to end where a
-field of the kernel's structure does, and each field has to stand in a row, unless nothing is read there. The codes of
-actions and instructions have to have the kernel's names, the error types its bits, and the sections its GUIDs.
+.ci/run runs it behind the gate; it is skipped where there are no such headers. Each place that a definition of specs/
+reads has to begin and to end where a field of the kernel's structure does, and each field has to be read, unless nothing
+is read there. The rows of sections have to go by the kernel's validation bits. What has no definition with its places
+stands in docs/FORMATS.md, and is held the same way: tables' headers, the codes of actions and instructions with the
+kernel's names, the error types with its bits, the sections with its GUIDs.
 """
 
 import pathlib
 import re
 import sys
 
+TOP = pathlib.Path(__file__).resolve().parent.parent
+CRATES = TOP / "crates"
 SIZES = {"u8": 1, "char": 1, "u16": 2, "u32": 4, "u64": 8, "guid_t": 16}
 # A line of docs/FORMATS.md that stands before a table, and the structure that the table is of.
 TABLES = [
     ("### The common header", "acpi_table_header"),
-    ("### The structure of a generic hardware error source", "acpi_hest_generic_v2"),
-    ("### The notification structure", "acpi_hest_notify"),
-    ("### The generic address", "acpi_generic_address"),
     ("### The error injection table", "acpi_table_einj"),
-    ("### The entry of an error injection table", "acpi_einj_entry"),
     ("### The address structure", "acpi_einj_error_type_with_addr"),
     ("### The trigger table", "acpi_einj_trigger"),
-    ("### The header of an error status block", "acpi_hest_generic_status"),
-    ("### The data entry", "acpi_hest_generic_data_v300"),
-    ("Memory (UEFI", "cper_sec_mem_err"),
-    ("Processor (UEFI", "cper_sec_proc_generic"),
-    ("PCIe (UEFI", "cper_sec_pcie"),
+]
+# A structure, and the definitions that read it, each with its file of specs/.
+READERS = [
+    ("acpi_generic_address", [("apei_base/specs/Region.antt", "gas_of")]),
+    ("acpi_hest_notify", [("apei_hest/specs/Source.antt", "notify_of")]),
+    ("acpi_hest_generic_v2", [
+        ("apei_hest/specs/Structure.antt", "type_of"),
+        ("apei_hest/specs/Source.antt", "ghes_of"),
+        ("apei_hest/specs/Source.antt", "ack_of"),
+    ]),
+    ("acpi_einj_entry", [("apei_einj/specs/Entry.antt", "entry_of")]),
+    ("acpi_hest_generic_status", [("cper_block/specs/Header.antt", "header_of")]),
+    ("acpi_hest_generic_data_v300", [
+        ("cper_block/specs/Entry.antt", "fields_of"),
+        ("cper_block/specs/Entry.antt", "section_length"),
+    ]),
+]
+# A file of rows in the specs/ of cper_sections, its structure, and the kernel's name of each validation bit, by row.
+SECTIONS = [
+    ("Memory", "cper_sec_mem_err", "CPER_MEM_VALID_", {
+        "status": "ERROR_STATUS", "physical address": "PA", "mask": "PA_MASK", "node": "NODE", "card": "CARD",
+        "module": "MODULE", "bank": "BANK", "device": "DEVICE", "row": "ROW", "column": "COLUMN",
+        "bit position": "BIT_POSITION", "requestor": "REQUESTOR_ID", "responder": "RESPONDER_ID", "target": "TARGET_ID",
+        "type": "ERROR_TYPE", "rank": "RANK_NUMBER", "card handle": "CARD_HANDLE", "module handle": "MODULE_HANDLE",
+    }),
+    ("Processor", "cper_sec_proc_generic", "CPER_PROC_VALID_", {
+        "processor type": "TYPE", "isa": "ISA", "error type": "ERROR_TYPE", "operation": "OPERATION", "flags": "FLAGS",
+        "level": "LEVEL", "version": "VERSION", "brand": "BRAND_INFO", "id": "ID", "target address": "TARGET_ADDRESS",
+        "requestor": "REQUESTOR_ID", "responder": "RESPONDER_ID", "instruction pointer": "IP",
+    }),
+    ("Pcie", "cper_sec_pcie", "CPER_PCIE_VALID_", {
+        "port type": "PORT_TYPE", "version minor": "VERSION", "version major": "VERSION", "command": "COMMAND_STATUS",
+        "status": "COMMAND_STATUS", "vendor": "DEVICE_ID", "device id": "DEVICE_ID", "class": "DEVICE_ID",
+        "function": "DEVICE_ID", "device": "DEVICE_ID", "segment": "DEVICE_ID", "bus": "DEVICE_ID",
+        "secondary bus": "DEVICE_ID", "slot": "DEVICE_ID", "serial": "SERIAL_NUMBER",
+        "bridge status": "BRIDGE_CONTROL_STATUS", "bridge control": "BRIDGE_CONTROL_STATUS", "capability": "CAPABILITY",
+        "aer": "AER_INFO",
+    }),
+]
+# How a definition reads a place, and how many bytes that has, where it does not say.
+PLACES = [
+    (r"number_at (?P<at>\d+) (?P<size>\d+) bytes", None),
+    (r"(?:little_number|take) (?P<size>\d+) \(drop (?P<at>\d+) bytes\)", None),
+    (r"slice_index bytes (?P<at>\d+)", 1),
+    (r"gas_at (?P<at>\d+) bytes", 12),
+    (r"guid_at (?P<at>\d+) bytes", 16),
+    (r"notify_of \(drop (?P<at>\d+) bytes\)", 28),
 ]
 GUIDS = {"memory": "CPER_SEC_PLATFORM_MEM", "processor": "CPER_SEC_PROC_GENERIC", "PCIe": "CPER_SEC_PCIE"}
 # Where nothing is read, by the name of the field: what is reserved, and the number that a section begins with.
@@ -106,10 +148,42 @@ def rows(lines, anchor):
             yield int(row["Offset"]), bytes_of, row["Field"]
 
 
-def misplaced(text, lines, anchor, struct):
+def definition(spec, name):
+    """The lines of a definition in a file of specs/: from its name up to an empty line."""
+    return re.search(rf"^{name} .*?(?=^$|\Z)", spec, re.M | re.S)[0]
+
+
+def places(readers):
+    """What the definitions read: (offset, bytes, name). Offsets that have a name are looked up in the file."""
+    for path, name in readers:
+        spec = (CRATES / path).read_text()
+        named = dict(re.findall(r"^(\w+) = (\d+)$", spec, re.M))
+        for line in definition(spec, name).split("\n"):
+            line = re.sub(r"\w+", lambda word: named.get(word[0], word[0]), line)
+            for pattern, size in PLACES:
+                for found in re.finditer(pattern, line):
+                    yield int(found["at"]), size or int(found["size"]), line.split("=")[0].strip()
+
+
+def section_rows(name):
+    """The rows of a section: (offset, bytes, name, bit)."""
+    spec = (CRATES / f"cper_sections/specs/{name}.antt").read_text()
+    for row, bit, at, width in re.findall(r'_field \(codes "([^"]+)"\) (\d+) (\d+) (\d+)', spec):
+        yield int(at), int(width), row, int(bit)
+
+
+def misgiven(text, name, prefix, bits):
+    """What is said of the rows of a section whose bits are not those of the kernel."""
+    for _, _, row, bit in section_rows(name):
+        value = re.search(rf"#define {prefix}{bits.get(row)}\s+(\w+)", text)
+        if value is None or int(value[1], 0) != 1 << bit:
+            yield f"the row {row} does not go by {prefix}{bits.get(row)}"
+
+
+def misplaced(text, told, struct):
     """What is said of the rows and the fields that do not fit."""
     place = text.index(f"struct {struct} {{") + len(f"struct {struct} ")
-    known, told = fields(text, body_at(text, place)[0]), list(rows(lines, anchor))
+    known, told = fields(text, body_at(text, place)[0]), list(told)
     begins, ends = {at for at, _, _ in known}, {at + size for at, size, _ in known}
     for at, size, name in told:
         if at not in begins or at + size not in ends:
@@ -155,9 +229,13 @@ def main():
     if text is None:
         print("skipped: there are no headers of Linux 6.1 here")
         return 0
-    lines = (pathlib.Path(__file__).parent.parent / "docs" / "FORMATS.md").read_text().split("\n")
+    lines = (TOP / "docs" / "FORMATS.md").read_text().split("\n")
     entry = "### The entry of an error injection table"
-    checks = [(struct, list(misplaced(text, lines, anchor, struct))) for anchor, struct in TABLES]
+    checks = [(struct, list(misplaced(text, rows(lines, anchor), struct))) for anchor, struct in TABLES]
+    checks += [(struct, list(misplaced(text, places(readers), struct))) for struct, readers in READERS]
+    for name, struct, prefix, bits in SECTIONS:
+        told = [row[:3] for row in section_rows(name)]
+        checks.append((struct, list(misplaced(text, told, struct)) + list(misgiven(text, name, prefix, bits))))
     checks.append(("the actions", list(misnamed(text, lines, entry, "Action", "acpi_einj_actions"))))
     checks.append(("the instructions", list(misnamed(text, lines, entry, "Instruction", "acpi_einj_instructions"))))
     checks.append(("the error types", list(mistyped(text, lines))))

@@ -3,7 +3,7 @@ use Rattle.std.proofs.Common.{◌≡◌, ◌≤◌, ℕ, ◌+◌, ◌-◌, min, 
 use Rattle.std.specs.List.{flat_map}
 use Rattle.std.proofs.Math.Seq.{take-add}
 use Rattle.std.proofs.lemmas.Bool.{ltb-false, eqb-true, eqb-false}
-use Rattle.std.proofs.lemmas.List.{length-take-le, length-drop, nil_from_length}
+use Rattle.std.proofs.lemmas.List.{length-take-le, length-drop, length-append, nil_from_length}
 use Rattle.cper_block.specs.declared.header.Header.{Header}
 use Rattle.cper_block.specs.declared.malformed.Malformed.{Malformed}
 use Rattle.cper_block.specs.declared.malformed.Malformed.TheVariants.{TooShort, TooLong, DataLength, RawOffset, EntryTruncated, Leftover}
@@ -149,5 +149,18 @@ is_its_parts bytes limit j =
 pub is_at_hand : (bytes : List ℕ) (limit : ℕ) → Judges bytes limit None → block_length (header_of bytes) ≤ length bytes
 is_at_hand bytes limit j = omega (arith, (front_is bytes limit j).sound.within)
 
+pub is_long : (bytes : List ℕ) (limit : ℕ) → Judges bytes limit None → 20 ≤ length bytes
+is_long bytes limit j = (front_is bytes limit j).long
+
 pub is_within : (bytes : List ℕ) (limit : ℕ) → Judges bytes limit None → block_length (header_of bytes) ≤ limit
 is_within bytes limit j = omega (arith, (front_is bytes limit j).sound.within)
+
+-- a block holds its header and its entries
+pub holds_data : (bytes : List ℕ) (limit : ℕ) → Judges bytes limit None → 20 + (header_of bytes).length ≤ length bytes
+holds_data bytes limit j =
+    let size = block_length (header_of bytes) in
+    let parts = (is_its_parts bytes limit j).1 in
+    let at_hand = is_at_hand bytes limit j in
+    let whole : length (take size bytes) ≡ size = length-take-le size bytes at_hand in
+    let sum = ap length parts.whole in
+    omega (arith, simp length-append at sum, parts.front_length, parts.data_length)

@@ -5,10 +5,17 @@ use Rattle.uuid.specs.Parts.{swap_fields}
 use Rattle.apei_base.specs.Number.{number_at}
 use Rattle.cper_block.specs.declared.entry.DataEntry.{DataEntry}
 
+-- how many bytes the header of an entry has at least, and how many with a timestamp (ACPI 6.5, 18.3.2.7.1)
+abbrev pub entry_header_size : ℕ
+entry_header_size = 64
+
+abbrev pub long_entry_header_size : ℕ
+long_entry_header_size = 72
+
 -- The header of an entry has 72 bytes where the high byte of its revision, at offset 20, is 3 or more: there a
 -- timestamp follows. Else it has 64 bytes (ACPI 6.5, 18.3.2.7.1).
 abbrev pub entry_header_length : List ℕ → ℕ
-entry_header_length bytes = if nat_le 3 (number_at 20 2 bytes / 256) then 72 else 64
+entry_header_length bytes = if nat_le 3 (number_at 20 2 bytes / 256) then long_entry_header_size else entry_header_size
 
 -- the length of its section, at offset 24
 abbrev pub section_length : List ℕ → ℕ
@@ -49,7 +56,7 @@ fields_of bytes = record {
   flags = slice_index bytes 23;
   fru_id = if is_valid 1 bytes then Some (guid_at 28 bytes) else None;
   fru_text = if is_valid 2 bytes then Some (take 20 (drop 44 bytes)) else None;
-  timestamp = if is_valid 4 bytes && (entry_header_length bytes == 72) then Some (take 8 (drop 64 bytes)) else None;
+  timestamp = if is_valid 4 bytes && (entry_header_length bytes == long_entry_header_size) then Some (take 8 (drop entry_header_size bytes)) else None;
   section = drop (entry_header_length bytes) bytes;
 }
 

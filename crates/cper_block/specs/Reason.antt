@@ -12,7 +12,7 @@ reason_in zero whole bytes = rest_reason whole bytes
 reason_in (suc n) whole bytes =
     if begins_entry bytes then reason_in n (whole + 1) (drop (entry_length bytes) bytes) else rest_reason whole bytes
 
--- the reason of the bytes of a block's entries: there are fewer entries than bytes
+-- the reason of the bytes of a block's entries: there are at most as many as bytes
 abbrev pub data_reason : List ℕ → Option Malformed
 data_reason bytes = reason_in (length bytes) 0 bytes
 

@@ -1,7 +1,8 @@
+//! The entries of a block, one after another.
 ghost use Rattle.std.specs.Prelude.{◌≡◌};
 
 use crate::DataEntry;
-use crate::entry::entry_length;
+use crate::entry::whole_entry;
 use std::marker::Model;
 
 /// The entries of a block, in order.
@@ -41,13 +42,7 @@ impl<'a> Iterator for Entries<'a> {
     ghost remaining = { item_count entries_of };
 
     fn next(&mut self) -> Option<DataEntry<'a>> {
-        if self.rest.len() < 64 {
-            return None;
-        }
-        let length = entry_length(self.rest);
-        if self.rest.len() < length {
-            return None;
-        }
+        let length = whole_entry(self.rest)?;
         let (entry, rest) = self.rest.split_at(length);
         self.rest = rest;
         Some(DataEntry::read(entry))

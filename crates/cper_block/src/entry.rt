@@ -1,10 +1,17 @@
-ghost use Rattle.std.specs.Prelude.{◌≡◌, ◌≤◌, ◌+◌, length};
+//! A data entry of a block: its length, its header's fields, its section.
+ghost use Rattle.std.specs.Prelude.{◌≡◌, ◌≤◌, ◌+◌, length, false, None, IfSome};
 ghost use Rattle.std.specs.Option.{option_copied};
-ghost use Rattle.apei_base.specs.Number.{number_at};
-ghost use Rattle.cper_block.specs.Entry.{entry_header_length, section_length, entry_length, guid_at, is_valid, view, fields_of};
+ghost use Rattle.cper_block.specs.Cut.{begins_entry};
+ghost use Rattle.cper_block.specs.Entry.{entry_header_size, entry_header_length, section_length, entry_length, guid_at, is_valid, view, fields_of};
 
-use byteorder::{ByteOrder, LittleEndian};
+use apei_base::{u16_at, u32_at};
 use uuid::Uuid;
+
+/// How many bytes the header of an entry has at least.
+pub(crate) const ENTRY_HEADER_SIZE: usize = 64;
+
+// How many bytes it has with a timestamp.
+const LONG_ENTRY_HEADER_SIZE: usize = 72;
 
 /// A data entry of a block: what its header says, and its section.
 ///
@@ -27,22 +34,6 @@ pub struct DataEntry<'a> {
     pub section: &'a [u8],
 }
 
-// The number in the four bytes at an offset.
-fn u32_at(bytes: &[u8], offset: usize) -> u32
-    requires { offset + 4 ≤ length bytes.now }
-    ensures { result ≡ number_at offset 4 bytes.now }
-{
-    LittleEndian::read_u32(bytes.split_at(offset).1)
-}
-
-// The number in the two bytes at an offset.
-fn u16_at(bytes: &[u8], offset: usize) -> u16
-    requires { offset + 2 ≤ length bytes.now }
-    ensures { result ≡ number_at offset 2 bytes.now }
-{
-    LittleEndian::read_u16(bytes.split_at(offset).1)
-}
-
 // The GUID in the 16 bytes at an offset.
 fn guid_at(bytes: &[u8], offset: usize) -> Uuid
     requires { offset + 16 ≤ length bytes.now }
@@ -55,33 +46,56 @@ fn guid_at(bytes: &[u8], offset: usize) -> Uuid
 
 // Whether a bit of the validation byte is set.
 fn is_valid(bytes: &[u8], mask: u8) -> bool
-    requires { 64 ≤ length bytes.now }
+    requires { entry_header_size ≤ length bytes.now }
     ensures { result ≡ is_valid mask bytes.now }
 {
     bytes[22] & mask != 0
 }
 
-/// How many bytes the header of the entry has that begins the bytes.
-pub(crate) fn entry_header_length(bytes: &[u8]) -> usize
-    requires { 64 ≤ length bytes.now }
+// How many bytes the header of the entry has that begins the bytes.
+fn entry_header_length(bytes: &[u8]) -> usize
+    requires { entry_header_size ≤ length bytes.now }
     ensures { result ≡ entry_header_length bytes.now }
 {
-    if u16_at(bytes, 20) / 256 >= 3 { 72 } else { 64 }
+    if u16_at(bytes, 20) / 256 >= 3 {
+        LONG_ENTRY_HEADER_SIZE
+    } else {
+        ENTRY_HEADER_SIZE
+    }
 }
 
-/// How many bytes the entry has that begins the bytes.
-pub(crate) fn entry_length(bytes: &[u8]) -> usize
-    requires { 64 ≤ length bytes.now }
+// How many bytes the entry has that begins the bytes.
+fn entry_length(bytes: &[u8]) -> usize
+    requires { entry_header_size ≤ length bytes.now }
     ensures value { result ≡ entry_length bytes.now }
     ensures header { entry_header_length bytes.now ≤ result }
 {
     entry_header_length(bytes) + u32_at(bytes, 24) as usize
 }
 
+/// How many bytes the entry has that begins the bytes, where a whole one does.
+pub(crate) fn whole_entry(bytes: &[u8]) -> Option<usize>
+    ensures found { IfSome result (λ n. n ≡ entry_length bytes.now) }
+    ensures none { result ≡ None → begins_entry bytes.now ≡ false }
+    ensures long { IfSome result (λ n. entry_header_size ≤ length bytes.now) }
+    ensures within { IfSome result (λ n. n ≤ length bytes.now) }
+    ensures header { IfSome result (λ n. entry_header_length bytes.now ≤ n) }
+{
+    if bytes.len() < ENTRY_HEADER_SIZE {
+        return None;
+    }
+    let length = entry_length(bytes);
+    if length <= bytes.len() {
+        Some(length)
+    } else {
+        None
+    }
+}
+
 // The text of the FRU, where it is there.
 #[tactic(auto, unfolding(crate::specs::Entry::fields_of))]
 fn fru_text(bytes: &[u8]) -> Option<&[u8]>
-    requires { 64 ≤ length bytes.now }
+    requires { entry_header_size ≤ length bytes.now }
     ensures { option_copied result ≡ (fields_of bytes.now).fru_text }
 {
     if is_valid(bytes, 2) {
@@ -94,12 +108,12 @@ fn fru_text(bytes: &[u8]) -> Option<&[u8]>
 // The timestamp, where it is there.
 #[tactic(auto, unfolding(crate::specs::Entry::fields_of))]
 fn timestamp(bytes: &[u8]) -> Option<&[u8]>
-    requires header { 64 ≤ length bytes.now }
+    requires header { entry_header_size ≤ length bytes.now }
     requires whole { entry_header_length bytes.now ≤ length bytes.now }
     ensures { option_copied result ≡ (fields_of bytes.now).timestamp }
 {
-    if is_valid(bytes, 4) && entry_header_length(bytes) == 72 {
-        Some(bytes.split_at(64).1.split_at(8).0)
+    if is_valid(bytes, 4) && entry_header_length(bytes) == LONG_ENTRY_HEADER_SIZE {
+        Some(bytes.split_at(ENTRY_HEADER_SIZE).1.split_at(8).0)
     } else {
         None
     }
@@ -108,7 +122,7 @@ fn timestamp(bytes: &[u8]) -> Option<&[u8]>
 // The id of the FRU, where it is there.
 #[tactic(auto, unfolding(crate::specs::Entry::fields_of))]
 fn fru_id(bytes: &[u8]) -> Option<Uuid>
-    requires { 64 ≤ length bytes.now }
+    requires { entry_header_size ≤ length bytes.now }
     ensures { result ≡ (fields_of bytes.now).fru_id }
 {
     if is_valid(bytes, 1) {
@@ -122,7 +136,7 @@ impl<'a> DataEntry<'a> {
     /// The entry that the bytes are.
     #[tactic(auto, unfolding(crate::specs::Entry::fields_of))]
     pub(crate) fn read(bytes: &'a [u8]) -> DataEntry<'a>
-        requires header { 64 ≤ length bytes.now }
+        requires header { entry_header_size ≤ length bytes.now }
         requires whole { entry_header_length bytes.now ≤ length bytes.now }
         ensures { view result ≡ fields_of bytes.now }
     {

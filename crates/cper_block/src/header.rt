@@ -1,8 +1,10 @@
-ghost use Rattle.std.specs.Prelude.{◌≡◌, ◌≤◌, IfOk};
+//! The header of a block, and what it says of the block.
+ghost use Rattle.std.specs.Prelude.{◌≡◌, ◌≤◌, ◌+◌, IfOk};
 ghost use Rattle.std.specs.Result.{result_err};
 
+use crate::entry::ENTRY_HEADER_SIZE;
 use crate::{Malformed, Severity};
-use byteorder::{ByteOrder, LittleEndian};
+use apei_base::u32_at;
 
 /// The header of an error status block.
 ///
@@ -24,12 +26,12 @@ pub(crate) const HEADER_SIZE: usize = 20;
 
 impl Header {
     ghost use Rattle.std.specs.Prelude.{length};
-    ghost use Rattle.cper_block.specs.Header.{header_of, block_length, header_reason};
+    ghost use Rattle.cper_block.specs.Header.{header_size, header_of, block_length, header_reason};
     ghost use Rattle.cper_block.specs.Severity.{severity_of};
 
     /// The header at the front of the bytes.
     pub(crate) fn at(bytes: &[u8]) -> Header
-        requires { 20 ≤ length bytes.now }
+        requires { header_size ≤ length bytes.now }
         ensures { result ≡ header_of bytes.now }
     {
         let mut front = [0u8; HEADER_SIZE];
@@ -42,11 +44,11 @@ impl Header {
         ensures { result ≡ header_of bytes.now }
     {
         Header {
-            status: LittleEndian::read_u32(bytes.as_slice()),
-            raw_offset: LittleEndian::read_u32(&bytes[4..]),
-            raw_length: LittleEndian::read_u32(&bytes[8..]),
-            length: LittleEndian::read_u32(&bytes[12..]),
-            severity: LittleEndian::read_u32(&bytes[16..]),
+            status: u32_at(bytes, 0),
+            raw_offset: u32_at(bytes, 4),
+            raw_length: u32_at(bytes, 8),
+            length: u32_at(bytes, 12),
+            severity: u32_at(bytes, 16),
         }
     }
 
@@ -55,7 +57,7 @@ impl Header {
         ensures { result ≡ block_length self.now }
     {
         if self.raw_length == 0 {
-            20 + u64::from(self.length)
+            HEADER_SIZE as u64 + u64::from(self.length)
         } else {
             u64::from(self.raw_offset) + u64::from(self.raw_length)
         }
@@ -67,20 +69,21 @@ impl Header {
     pub fn check(&self, limit: u32) -> Result<u32, Malformed>
         ensures err { result_err result ≡ header_reason self.now limit }
         ensures length { IfOk result (λ length. length ≡ block_length self.now) }
-        ensures least { IfOk result (λ length. 20 ≤ length) }
+        ensures entries { IfOk result (λ length. header_size + self.now.length ≤ length) }
         ensures within { IfOk result (λ length. length ≤ limit) }
     {
         let length = self.block_length();
-        if length < 20 {
+        if length < HEADER_SIZE as u64 {
             return Err(Malformed::TooShort);
         }
         if length > u64::from(limit) {
             return Err(Malformed::TooLong);
         }
-        if 0 < self.length && self.length < 64 {
+        if 0 < self.length && self.length < ENTRY_HEADER_SIZE as u32 {
             return Err(Malformed::DataLength);
         }
-        if self.raw_length != 0 && u64::from(self.raw_offset) < 20 + u64::from(self.length) {
+        let entries_end = HEADER_SIZE as u64 + u64::from(self.length);
+        if self.raw_length != 0 && u64::from(self.raw_offset) < entries_end {
             return Err(Malformed::RawOffset);
         }
         Ok(length as u32)

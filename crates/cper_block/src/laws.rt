@@ -17,6 +17,15 @@ pub fn a_block_is_its_parts()
     ensures within { (bytes : List ℕ) (limit : ℕ) → Judges bytes limit None → block_length (header_of bytes) ≤ limit }
 {}
 
+/// Joined parts whose header says so are a well-formed block, under each limit that they keep and whatever lies behind.
+pub fn joined_parts_are_a_block()
+    ensures front { (bytes : List ℕ) (limit : ℕ) (entries : List (List ℕ))
+        → IsJoined (header_of bytes) (take (block_length (header_of bytes)) bytes) entries
+        → block_length (header_of bytes) ≤ limit → Judges bytes limit None }
+    ensures whole { (block : List ℕ) (limit : ℕ) (entries : List (List ℕ)) → IsJoined (header_of block) block entries
+        → length block ≤ limit → Judges block limit None }
+{}
+
 /// The entries that a block gives are those that its data is cut into, in order.
 pub fn the_entries_are_those_of_the_cut()
     ensures { (bytes rest : List ℕ) (entries : List (List ℕ)) → Cuts bytes entries rest → begins_entry rest ≡ false

@@ -1,3 +1,4 @@
+//! Why bytes are no well-formed block.
 use std::error::Error;
 use std::fmt;
 
@@ -20,6 +21,25 @@ pub enum Malformed {
     Leftover,
 }
 
+impl Malformed {
+    ghost use Rattle.std.specs.Prelude.{◌≡◌};
+    ghost use Rattle.cper_block.specs.Text.{malformed_word};
+
+    /// The words for it, up to a number of entries.
+    pub fn word(self) -> &'static str
+        ensures { result.now ≡ malformed_word self }
+    {
+        match self {
+            Malformed::TooShort => "1 too short",
+            Malformed::TooLong => "2 too long",
+            Malformed::DataLength => "3 data length",
+            Malformed::RawOffset => "4 raw offset",
+            Malformed::EntryTruncated(_) => "5 entry ",
+            Malformed::Leftover => "6 left over",
+        }
+    }
+}
+
 impl fmt::Display for Malformed {
     ghost use Rattle.std.specs.Prelude.{Some};
     ghost use Rattle.cper_block.specs.Text.{malformed_text};
@@ -27,13 +47,10 @@ impl fmt::Display for Malformed {
     ghost output = { λ reason. Some (malformed_text reason) };
 
     fn fmt<W: fmt::Write>(&self, f: &mut fmt::Formatter<W>) -> fmt::Result {
+        f.write_str(self.word())?;
         match self {
-            Malformed::TooShort => f.write_str("1 too short"),
-            Malformed::TooLong => f.write_str("2 too long"),
-            Malformed::DataLength => f.write_str("3 data length"),
-            Malformed::RawOffset => f.write_str("4 raw offset"),
-            Malformed::EntryTruncated(whole) => write!(f, "5 entry {whole} truncated"),
-            Malformed::Leftover => f.write_str("6 left over"),
+            Malformed::EntryTruncated(whole) => write!(f, "{whole} truncated"),
+            _ => Ok(()),
         }
     }
 }

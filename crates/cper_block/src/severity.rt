@@ -1,3 +1,4 @@
+//! How bad an error is.
 ghost use Rattle.cper_block.specs.Severity.{severity_of, severity_text};
 
 use std::fmt;
@@ -15,13 +16,25 @@ pub enum Severity {
 
 impl Severity {
     ghost use Rattle.std.specs.Prelude.{◌≡◌};
-    ghost use Rattle.cper_block.specs.Severity.{is_fatal_severity};
+    ghost use Rattle.cper_block.specs.Severity.{is_fatal_severity, severity_text};
 
     /// Whether it is the fatal one.
     pub fn is_fatal(self) -> bool
         ensures { result ≡ is_fatal_severity self }
     {
         self == Severity::Fatal
+    }
+
+    /// The word for it.
+    pub fn word(self) -> &'static str
+        ensures { result.now ≡ severity_text self }
+    {
+        match self {
+            Severity::Recoverable => "recoverable",
+            Severity::Fatal => "fatal",
+            Severity::Corrected => "corrected",
+            Severity::Informational => "none",
+        }
     }
 }
 
@@ -47,11 +60,6 @@ impl fmt::Display for Severity {
     ghost output = { λ severity. Some (severity_text severity) };
 
     fn fmt<W: fmt::Write>(&self, f: &mut fmt::Formatter<W>) -> fmt::Result {
-        match self {
-            Severity::Recoverable => f.write_str("recoverable"),
-            Severity::Fatal => f.write_str("fatal"),
-            Severity::Corrected => f.write_str("corrected"),
-            Severity::Informational => f.write_str("none"),
-        }
+        f.write_str(self.word())
     }
 }

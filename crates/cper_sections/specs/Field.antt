@@ -4,10 +4,8 @@ use Rattle.std.specs.Int.{bit_at}
 use Rattle.std.specs.List.{before_first}
 use Rattle.std.specs.Option.{option_map}
 use Rattle.apei_base.specs.Number.{number_at}
-
--- how a field is read: as one number, as its bytes, or as a text up to its first 0 (own choice)
-pub data Form : Type 0 where
-  Number Bytes Text : Form
+use Rattle.cper_sections.specs.declared.form.Form.{Form}
+use Rattle.cper_sections.specs.declared.form.Form.TheVariants.{Number, Bytes, Text}
 
 -- A field of a section: its name, its bit of the validation number, its offset and its width in bytes, and how it is
 -- read (UEFI 2.10, appendix N.2; the names: own choice).

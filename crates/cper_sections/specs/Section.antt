@@ -1,8 +1,8 @@
 -- Which section bytes are: by the GUID of their data entry, and by their length (UEFI 2.10, appendix N.2.2).
-use Rattle.std.specs.Prelude.{ℕ, nat_lt, if◌then◌else◌, List, [], ◌∷◌, length, codes, unwrap_or, Option, Some, None}
+use Rattle.std.specs.Prelude.{ℕ, ◌+◌, ◌==◌, ◌&&◌, nat_lt, nat_le, if◌then◌else◌, filter, List, [], ◌∷◌, length, codes, unwrap_or, Option, Some, None}
 use Rattle.std.specs.Str.{bytes_eq}
 use Rattle.uuid.specs.Text.{parsed}
-use Rattle.cper_sections.specs.Field.{Field}
+use Rattle.cper_sections.specs.Field.{Field, end_of}
 use Rattle.cper_sections.specs.Memory.{memory_fields, rank, card_handle, module_handle}
 use Rattle.cper_sections.specs.Pcie.{pcie_fields}
 use Rattle.cper_sections.specs.Processor.{processor_fields}
@@ -44,6 +44,25 @@ abbrev pub late_fields : Kind → List Field
 late_fields kinds.Memory = rank ∷ card_handle ∷ module_handle ∷ []
 late_fields kinds.Processor = []
 late_fields kinds.Pcie = []
+
+-- how many bytes a section of a kind has with all its fields (UEFI 2.10, appendix N.2.4.1, N.2.5, N.2.7)
+abbrev pub full_length : Kind → ℕ
+full_length kinds.Memory = 80
+full_length kinds.Processor = 192
+full_length kinds.Pcie = 208
+
+-- the offsets of the bytes behind the validation number that are of no field: the extended row bits of a memory section,
+-- and what is reserved (UEFI 2.10, appendix N.2.4.1, N.2.5, N.2.7; that the former are not read: own choice)
+abbrev pub unread_bytes : Kind → List ℕ
+unread_bytes kinds.Memory = 73 ∷ []
+unread_bytes kinds.Processor = 14 ∷ 15 ∷ []
+unread_bytes kinds.Pcie = 14 ∷ 15 ∷ 20 ∷ 21 ∷ 22 ∷ 23 ∷ 39 ∷ []
+
+-- how many fields of a kind have the byte at an offset, and how often it is among the unread ones
+abbrev pub owners : Kind → ℕ → ℕ
+owners kind i =
+    length (filter (λ field. nat_le field.at i && nat_lt i (end_of field)) (section_fields kind))
+    + length (filter (λ unread. unread == i) (unread_bytes kind))
 
 -- a section as a whole one of a kind, a short one of a kind, or one of another type, with its bytes (own choice)
 pub data Reading : Type 0 where

@@ -1,3 +1,4 @@
+//! The kinds of sections whose fields are read, their GUIDs, lengths and tables.
 ghost use Rattle.std.specs.Prelude.{◌≡◌};
 ghost use Rattle.cper_sections.specs.Section.{guid_of, kind_of, least_length, kind_text};
 
@@ -65,6 +66,17 @@ impl Kind {
             Kind::Pcie => 208,
         }
     }
+
+    /// The word for it.
+    pub fn word(self) -> &'static str
+        ensures { result.now ≡ kind_text self }
+    {
+        match self {
+            Kind::Memory => "memory",
+            Kind::Processor => "processor",
+            Kind::Pcie => "pcie",
+        }
+    }
 }
 
 impl fmt::Display for Kind {
@@ -73,10 +85,6 @@ impl fmt::Display for Kind {
     ghost output = { λ kind. Some (kind_text kind) };
 
     fn fmt<W: fmt::Write>(&self, f: &mut fmt::Formatter<W>) -> fmt::Result {
-        match self {
-            Kind::Memory => f.write_str("memory"),
-            Kind::Processor => f.write_str("processor"),
-            Kind::Pcie => f.write_str("pcie"),
-        }
+        f.write_str(self.word())
     }
 }

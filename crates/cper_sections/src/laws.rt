@@ -1,9 +1,9 @@
 //! Laws over the definitions, each the contract of a function that does nothing.
-ghost use Rattle.std.specs.Prelude.{◌≡◌, ◌≤◌, ◌+◌, ◌++◌, ℕ, List, length, filter, not, nat_le, All, Some};
+ghost use Rattle.std.specs.Prelude.{◌≡◌, ◌≤◌, ◌<◌, ◌++◌, ℕ, List, length, filter, not, nat_le, All, Some};
 ghost use Rattle.std.specs.List.{AllPairs};
 ghost use Rattle.cper_sections.specs.declared.kind.Kind.{Kind};
 ghost use Rattle.cper_sections.specs.Field.{Field, end_of, number_of, bytes_of, text_of};
-ghost use Rattle.cper_sections.specs.Section.{guid_of, kind_of, least_length, section_fields, late_fields};
+ghost use Rattle.cper_sections.specs.Section.{guid_of, kind_of, least_length, section_fields, late_fields, full_length, owners};
 
 /// A GUID names a kind exactly where it is that kind's own.
 pub fn each_kind_has_its_own_guid()
@@ -16,6 +16,13 @@ pub fn each_kind_has_its_own_guid()
 pub fn no_two_fields_overlap()
     ensures behind_validation { (kind : Kind) → All (λ field. 8 ≤ field.at) (section_fields kind) }
     ensures apart { (kind : Kind) → AllPairs (λ field later. end_of field ≤ later.at) (section_fields kind) }
+{}
+
+/// Each byte of a whole section behind the validation number is of one field, or of the named unread ones, and no field
+/// reaches behind the section.
+pub fn each_byte_is_of_one_field()
+    ensures owned { (kind : Kind) (i : ℕ) → 8 ≤ i → i < full_length kind → owners kind i ≡ 1 }
+    ensures within { (kind : Kind) → All (λ field. end_of field ≤ full_length kind) (section_fields kind) }
 {}
 
 /// The fields that do not fit into the least bytes of their section are the late ones: of a memory section rank, card

@@ -1,3 +1,4 @@
+//! Which section the bytes of a data entry are.
 ghost use Rattle.std.specs.Prelude.{◌≡◌};
 
 use crate::{Kind, Memory, Pcie, Processor};

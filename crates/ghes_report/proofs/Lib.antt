@@ -1,6 +1,6 @@
-mod BodyLemmas
+mod DigitLemmas
+mod GrownLemmas
 mod Joining
-pub mod LimitLemmas
-mod LineLemmas
 pub mod OwnBytes
 mod ShownLemmas
+mod WholeLemmas

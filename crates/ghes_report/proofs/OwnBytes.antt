@@ -1,25 +1,15 @@
 -- The lines of a block are read from its own bytes.
 use Rattle.std.proofs.Common.{◌≡◌, ◌≤◌, ◌+◌, ℕ, List, ◌++◌, length, take, drop, ap, ◌∙◌, arith, None}
-use Rattle.std.proofs.lemmas.List.{length-append, length-drop, length-take-le, drop-append-le, take-append-le}
+use Rattle.std.proofs.lemmas.List.{length-drop, drop-append-le, take-append-le}
 use Rattle.apei_base.specs.Number.{number_at}
-use Rattle.cper_block.specs.Header.{header_of, block_length}
+use Rattle.cper_block.specs.Header.{header_of}
 use Rattle.cper_block.specs.Cut.{entries_of}
 use Rattle.cper_block.specs.Block.{data_of, Judges}
 use Rattle.cper_block.specs.Severity.{severity_of}
 use Rattle.cper_block.proofs.EntryLemmas.{number_at-append}
-use Rattle.cper_block.proofs.PartLemmas.{is_its_parts, is_at_hand}
+use Rattle.cper_block.proofs.PartLemmas.{holds_data}
 use Rattle.ghes_report.specs.Entry.{entries_text}
 use Rattle.ghes_report.specs.Body.{severity_line, raw_line, block_text}
-
--- a block holds its header and its entries
-holds_data : (block : List ℕ) (limit : ℕ) → Judges block limit None → 20 + (header_of block).length ≤ length block
-holds_data block limit j =
-    let size = block_length (header_of block) in
-    let parts = (is_its_parts block limit j).1 in
-    let at_hand = is_at_hand block limit j in
-    let whole : length (take size block) ≡ size = length-take-le size block at_hand in
-    let sum = ap length parts.whole in
-    omega (arith, simp length-append at sum, parts.front_length, parts.data_length)
 
 -- the entries of a block that holds them
 data_of-append : (block behind : List ℕ) → 20 + (header_of block).length ≤ length block → data_of (block ++ behind) ≡ data_of block

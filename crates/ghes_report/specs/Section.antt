@@ -5,8 +5,9 @@ use Rattle.std.specs.List.{flat_map}
 use Rattle.hex.specs.Hex.{encode_lower}
 use Rattle.uuid.specs.Text.{hyphenated_text, lower}
 use Rattle.cper_sections.specs.declared.kind.Kind.{Kind}
-use Rattle.cper_sections.specs.Field.{Field, Form, number_of, bytes_of, text_of}
-use Rattle.cper_sections.specs.Field.Form.{Number, Bytes, Text}
+use Rattle.cper_sections.specs.declared.form.Form.{Form}
+use Rattle.cper_sections.specs.declared.form.Form.TheVariants.{Number, Bytes, Text}
+use Rattle.cper_sections.specs.Field.{Field, number_of, bytes_of, text_of}
 use Rattle.cper_sections.specs.Section.{Reading, section_fields, kind_text}
 use Rattle.cper_sections.specs.Section.Reading.{Whole, Short, Other}
 use Rattle.ghes_report.specs.Bytes.{bytes_line, text_line}

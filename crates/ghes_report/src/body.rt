@@ -1,55 +1,46 @@
-ghost use Rattle.std.specs.Prelude.{◌≡◌, ◌++◌, OnOk, IfOk, None};
-ghost use Rattle.std.specs.String.{string_bytes};
-ghost use Rattle.cper_block.specs.Header.{header_of};
-ghost use Rattle.cper_block.specs.Block.{Judges, data_of};
+//! The lines of a block.
+ghost use Rattle.std.specs.Prelude.{◌≡◌, ◌++◌, OnOk, None};
+ghost use Rattle.cper_block.specs.Block.{Judges, largest_block};
 ghost use Rattle.ghes_report.specs.Body.{severity_line, raw_line, block_text};
 
-use crate::entry::entries_text;
+use crate::entry::{entries_text, severity_end};
+use crate::text::Text;
 use cper_block::{Block, Severity};
-use std::alloc::{AllocError, Global};
+use std::alloc::AllocError;
 
-// How many bytes a block has at most.
-const LIMIT: u32 = 65536;
-
-// The parts of a well-formed block.
-fn parts(block: &[u8]) -> Block<'_>
-    requires { Judges block.now 65536 None }
-    ensures header { result.header ≡ header_of block.now }
-    ensures entries { result.entries ≡ data_of block.now }
-{
-    Block::read(block, LIMIT).unwrap()
-}
-
-// The line of a block's severity.
+// Adds the line of a block's severity.
 #[tactic(auto, using(crate::proofs::Joining::grouped), unfolding(crate::specs::Body::severity_line))]
-fn severity_line(alloc: Global, severity: Severity) -> Result<String, AllocError>
-    ensures { IfOk result (λ line. string_bytes line ≡ severity_line severity) }
+fn severity_line(text: &mut Text, severity: Severity) -> Result<(), AllocError>
+    ensures ok { OnOk result (text.new.added ≡ text.old.added ++ severity_line severity) }
+    ensures front { text.new.front ≡ text.old.front }
 {
-    format!(in alloc; "  severity {severity}\n")
+    severity_end(text, "  severity ", severity)
 }
 
-// Appends the line of so many raw bytes, where there are some.
+// Adds the line of so many raw bytes, where there are some.
 #[tactic(auto, using(crate::proofs::Joining::grouped), unfolding(crate::specs::Body::raw_line))]
-fn raw_line(alloc: Global, into: &mut Vec<u8>, length: u32) -> Result<(), AllocError>
-    ensures { OnOk result (into.new.items ≡ into.old.items ++ raw_line length) }
+fn raw_line(text: &mut Text, length: u32) -> Result<(), AllocError>
+    ensures ok { OnOk result (text.new.added ≡ text.old.added ++ raw_line length) }
+    ensures front { text.new.front ≡ text.old.front }
 {
     if length == 0 {
         return Ok(());
     }
-    let line = format!(in alloc; "  raw {length} bytes\n")?;
-    into.extend_from_slice(line.as_bytes())
+    text.put(b"  raw ")?;
+    text.put_number(length)?;
+    text.put(b" bytes\n")
 }
 
-/// Appends the lines of a well-formed block.
+/// Adds the lines of a well-formed block, which is not judged again.
 #[tactic(auto, using(crate::proofs::Joining::grouped), unfolding(crate::specs::Body::block_text))]
-pub(crate) fn body_text(alloc: Global, into: &mut Vec<u8>, block: &[u8]) -> Result<(), AllocError>
-    requires { Judges block.now 65536 None }
-    ensures { OnOk result (into.new.items ≡ into.old.items ++ block_text block.now) }
+pub(crate) fn body_text(text: &mut Text, block: &[u8]) -> Result<(), AllocError>
+    requires { Judges block.now largest_block None }
+    ensures ok { OnOk result (text.new.added ≡ text.old.added ++ block_text block.now) }
+    ensures front { text.new.front ≡ text.old.front }
 {
-    let block = parts(block);
+    let block = Block::of(block);
     let header = block.header();
-    let line = severity_line(alloc, header.severity())?;
-    into.extend_from_slice(line.as_bytes())?;
-    entries_text(alloc, into, block.entries())?;
-    raw_line(alloc, into, header.raw_length)
+    severity_line(text, header.severity())?;
+    entries_text(text, block.entries())?;
+    raw_line(text, header.raw_length)
 }

@@ -1,32 +1,60 @@
-ghost use Rattle.std.specs.Prelude.{◌≡◌, ◌++◌, OnOk};
+//! Bytes in a text: as digits, and as characters.
+ghost use Rattle.std.specs.Prelude.{◌≡◌, ◌≤◌, ◌++◌, length, OnOk};
+ghost use Rattle.hex.specs.Hex.{encode_lower};
 ghost use Rattle.ghes_report.specs.Bytes.{bytes_text, bytes_line, shown, shown_text, text_line};
 
-use std::alloc::{AllocError, Global};
+use crate::text::Text;
+use std::alloc::AllocError;
 
-// Appends the digits of the bytes, or a word where there are none.
-fn bytes_text(alloc: Global, into: &mut Vec<u8>, bytes: &[u8]) -> Result<(), AllocError>
-    ensures { OnOk result (into.new.items ≡ into.old.items ++ bytes_text bytes.now) }
+// How many bytes are made digits at once: 64 digits.
+const CHUNK: usize = 32;
+
+// Adds the digits of at most so many bytes.
+fn chunk_digits(text: &mut Text, bytes: &[u8]) -> Result<(), AllocError>
+    requires { length bytes.now ≤ 32 }
+    ensures ok { OnOk result (text.new.added ≡ text.old.added ++ encode_lower bytes.now) }
+    ensures front { text.new.front ≡ text.old.front }
 {
-    if bytes.is_empty() {
-        return into.extend_from_slice(b"empty");
-    }
-    let digits = hex::encode(alloc, bytes)?;
-    into.extend_from_slice(digits.as_bytes())
+    let mut buffer = [0u8; 64];
+    let (digits, _unused) = buffer.split_at_mut(2 * bytes.len());
+    hex::encode_to_slice(bytes, digits).unwrap();
+    text.put(digits)
 }
 
-/// Appends a line of bytes behind a head.
-#[tactic(auto, using(crate::proofs::Joining::grouped), unfolding(crate::specs::Bytes::bytes_line))]
-pub(crate) fn bytes_line(
-    alloc: Global,
-    into: &mut Vec<u8>,
-    head: &str,
-    bytes: &[u8],
-) -> Result<(), AllocError>
-    ensures { OnOk result (into.new.items ≡ into.old.items ++ bytes_line head.now bytes.now) }
+/// Adds the digits of the bytes.
+pub(crate) fn digits(text: &mut Text, bytes: &[u8]) -> Result<(), AllocError>
+    ensures ok { OnOk result (text.new.added ≡ text.old.added ++ encode_lower bytes.now) }
+    ensures front { text.new.front ≡ text.old.front }
 {
-    into.extend_from_slice(head.as_bytes())?;
-    bytes_text(alloc, into, bytes)?;
-    into.extend_from_slice(b"\n")
+    let mut rest = bytes;
+    while !rest.is_empty() {
+        let (chunk, behind) = rest.split_at(rest.len().min(CHUNK));
+        chunk_digits(text, chunk)?;
+        rest = behind;
+    }
+    Ok(())
+}
+
+// Adds the digits of the bytes, or a word where there are none.
+fn bytes_text(text: &mut Text, bytes: &[u8]) -> Result<(), AllocError>
+    ensures ok { OnOk result (text.new.added ≡ text.old.added ++ bytes_text bytes.now) }
+    ensures front { text.new.front ≡ text.old.front }
+{
+    if bytes.is_empty() {
+        return text.put(b"empty");
+    }
+    digits(text, bytes)
+}
+
+/// Adds a line of bytes behind a head.
+#[tactic(auto, using(crate::proofs::Joining::grouped), unfolding(crate::specs::Bytes::bytes_line))]
+pub(crate) fn bytes_line(text: &mut Text, head: &str, bytes: &[u8]) -> Result<(), AllocError>
+    ensures ok { OnOk result (text.new.added ≡ text.old.added ++ bytes_line head.now bytes.now) }
+    ensures front { text.new.front ≡ text.old.front }
+{
+    text.put(head.as_bytes())?;
+    bytes_text(text, bytes)?;
+    text.put(b"\n")
 }
 
 // What is printed for a byte of a text.
@@ -39,26 +67,28 @@ fn shown(byte: u8) -> u8
     }
 }
 
-// Appends the characters of a text up to its first 0.
-fn shown_text(into: &mut Vec<u8>, bytes: &[u8]) -> Result<(), AllocError>
-    ensures { OnOk result (into.new.items ≡ into.old.items ++ shown_text bytes.now) }
+// Adds the characters of a text up to its first 0.
+fn shown_text(text: &mut Text, bytes: &[u8]) -> Result<(), AllocError>
+    ensures ok { OnOk result (text.new.added ≡ text.old.added ++ shown_text bytes.now) }
+    ensures front { text.new.front ≡ text.old.front }
 {
     for byte in bytes {
         if *byte == 0 {
             return Ok(());
         }
-        into.push(shown(*byte))?;
+        text.put(&[shown(*byte)])?;
     }
     Ok(())
 }
 
-/// Appends a line of a text behind a head, between quotation marks.
+/// Adds a line of a text behind a head, between quotation marks.
 #[tactic(auto, using(crate::proofs::Joining::grouped), unfolding(crate::specs::Bytes::text_line))]
-pub(crate) fn text_line(into: &mut Vec<u8>, head: &str, bytes: &[u8]) -> Result<(), AllocError>
-    ensures { OnOk result (into.new.items ≡ into.old.items ++ text_line head.now bytes.now) }
+pub(crate) fn text_line(text: &mut Text, head: &str, bytes: &[u8]) -> Result<(), AllocError>
+    ensures ok { OnOk result (text.new.added ≡ text.old.added ++ text_line head.now bytes.now) }
+    ensures front { text.new.front ≡ text.old.front }
 {
-    into.extend_from_slice(head.as_bytes())?;
-    into.extend_from_slice(b"\"")?;
-    shown_text(into, bytes)?;
-    into.extend_from_slice(b"\"\n")
+    text.put(head.as_bytes())?;
+    text.put(b"\"")?;
+    shown_text(text, bytes)?;
+    text.put(b"\"\n")
 }

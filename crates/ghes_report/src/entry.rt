@@ -1,100 +1,125 @@
-ghost use Rattle.std.specs.Prelude.{◌≡◌, ◌++◌, ◌<◌, ◌^◌, length, OnOk, IfOk};
+//! The lines of the data entries of a block.
+ghost use Rattle.std.specs.Prelude.{◌≡◌, ◌++◌, ◌<◌, ◌^◌, length, codes, OnOk};
+ghost use Rattle.std.specs.Fmt.{decimal};
 ghost use Rattle.std.specs.Option.{option_copied};
-ghost use Rattle.std.specs.String.{string_bytes};
 ghost use Rattle.cper_block.specs.Entry.{view};
 ghost use Rattle.cper_block.specs.Cut.{entries_of};
+ghost use Rattle.cper_block.specs.Severity.{severity_of, severity_text};
+ghost use Rattle.cper_sections.specs.Section.{view as section_view};
+ghost use Rattle.ghes_report.specs.Section.{type_text};
 ghost use Rattle.ghes_report.specs.Entry.{entry_line, fru_id_line, fru_text_line, timestamp_line, entry_text, entries_text};
 
 use crate::bytes::{bytes_line, text_line};
-use crate::section::{section_lines, type_text};
+use crate::section::{guid_text, section_lines, type_text};
+use crate::text::Text;
 use cper_block::{DataEntry, Entries, Severity};
 use cper_sections::Section;
-use std::alloc::{AllocError, Global};
+use std::alloc::AllocError;
 use uuid::Uuid;
 
-// The line of an entry: its number, the words for the type of its section, and its severity.
-fn entry_line(
-    alloc: Global,
-    number: u32,
-    words: &str,
+/// Adds a severity and the end of its line behind a head.
+#[tactic(auto, using(crate::proofs::Joining::grouped))]
+pub(crate) fn severity_end(
+    text: &mut Text,
+    head: &str,
     severity: Severity,
-) -> Result<String, AllocError>
-    ensures { IfOk result (λ line. string_bytes line ≡ entry_line number words.now severity) }
+) -> Result<(), AllocError>
+    ensures ok { OnOk result (text.new.added ≡ text.old.added ++ head.now ++ severity_text severity ++ codes "\n") }
+    ensures front { text.new.front ≡ text.old.front }
 {
-    format!(in alloc; "  entry {number} {words} severity {severity}\n")
+    text.put(head.as_bytes())?;
+    text.put(severity.word().as_bytes())?;
+    text.put(b"\n")
 }
 
-// Appends the line of a FRU's id, where there is one.
+// Adds the begin of an entry's line, with its number.
+#[tactic(auto, using(crate::proofs::Joining::grouped))]
+fn entry_begin(text: &mut Text, number: u32) -> Result<(), AllocError>
+    ensures ok { OnOk result (text.new.added ≡ text.old.added ++ codes "  entry " ++ decimal number ++ codes " ") }
+    ensures front { text.new.front ≡ text.old.front }
+{
+    text.put(b"  entry ")?;
+    text.put_number(number)?;
+    text.put(b" ")
+}
+
+// Adds the line of an entry: its number, the words for the type of its section, and its severity.
+#[tactic(auto, using(crate::proofs::Joining::grouped), unfolding(crate::specs::Entry::entry_line))]
+fn entry_line(
+    text: &mut Text,
+    number: u32,
+    entry: &DataEntry,
+    section: &Section,
+) -> Result<(), AllocError>
+    ensures ok { OnOk result (text.new.added ≡ text.old.added ++
+        entry_line number (type_text entry.now.guid (section_view section.now)) (severity_of entry.now.severity)) }
+    ensures front { text.new.front ≡ text.old.front }
+{
+    entry_begin(text, number)?;
+    type_text(text, &entry.guid, section)?;
+    severity_end(text, " severity ", Severity::from(entry.severity))
+}
+
+// Adds the line of a FRU's id, where there is one.
 #[tactic(auto, using(crate::proofs::Joining::grouped), unfolding(crate::specs::Entry::fru_id_line))]
-fn fru_id_line(alloc: Global, into: &mut Vec<u8>, id: Option<Uuid>) -> Result<(), AllocError>
-    ensures { OnOk result (into.new.items ≡ into.old.items ++ fru_id_line id) }
+fn fru_id_line(text: &mut Text, id: Option<Uuid>) -> Result<(), AllocError>
+    ensures ok { OnOk result (text.new.added ≡ text.old.added ++ fru_id_line id) }
+    ensures front { text.new.front ≡ text.old.front }
 {
     let Some(id) = id else {
         return Ok(());
     };
-    let line = format!(in alloc; "    fru id {id}\n")?;
-    into.extend_from_slice(line.as_bytes())
+    guid_text(text, "    fru id ", &id)?;
+    text.put(b"\n")
 }
 
-// Appends the line of a FRU's text, where there is one.
+// Adds the line of a FRU's text, where there is one.
 #[tactic(auto, unfolding(crate::specs::Entry::fru_text_line))]
-fn fru_text_line(into: &mut Vec<u8>, text: Option<&[u8]>) -> Result<(), AllocError>
-    ensures { OnOk result (into.new.items ≡ into.old.items ++ fru_text_line (option_copied text.entry)) }
+fn fru_text_line(text: &mut Text, fru_text: Option<&[u8]>) -> Result<(), AllocError>
+    ensures ok { OnOk result (text.new.added ≡ text.old.added ++ fru_text_line (option_copied fru_text.entry)) }
+    ensures front { text.new.front ≡ text.old.front }
 {
-    match text {
+    match fru_text {
         None => Ok(()),
-        Some(bytes) => text_line(into, "    fru text ", bytes),
+        Some(bytes) => text_line(text, "    fru text ", bytes),
     }
 }
 
-// Appends the line of a timestamp, where there is one.
+// Adds the line of a timestamp, where there is one.
 #[tactic(auto, unfolding(crate::specs::Entry::timestamp_line))]
-fn timestamp_line(
-    alloc: Global,
-    into: &mut Vec<u8>,
-    timestamp: Option<&[u8]>,
-) -> Result<(), AllocError>
-    ensures { OnOk result (into.new.items ≡ into.old.items ++ timestamp_line (option_copied timestamp.entry)) }
+fn timestamp_line(text: &mut Text, timestamp: Option<&[u8]>) -> Result<(), AllocError>
+    ensures ok { OnOk result (text.new.added ≡ text.old.added ++ timestamp_line (option_copied timestamp.entry)) }
+    ensures front { text.new.front ≡ text.old.front }
 {
     match timestamp {
         None => Ok(()),
-        Some(bytes) => bytes_line(alloc, into, "    timestamp ", bytes),
+        Some(bytes) => bytes_line(text, "    timestamp ", bytes),
     }
 }
 
-// Appends the lines of an entry with its number.
+// Adds the lines of an entry with its number.
 #[tactic(auto, using(crate::proofs::Joining::grouped), unfolding(crate::specs::Entry::entry_text))]
-fn entry_text(
-    alloc: Global,
-    into: &mut Vec<u8>,
-    number: u32,
-    entry: &DataEntry,
-) -> Result<(), AllocError>
-    ensures { OnOk result (into.new.items ≡ into.old.items ++ entry_text number (view entry.now)) }
+fn entry_text(text: &mut Text, number: u32, entry: &DataEntry) -> Result<(), AllocError>
+    ensures ok { OnOk result (text.new.added ≡ text.old.added ++ entry_text number (view entry.now)) }
+    ensures front { text.new.front ≡ text.old.front }
 {
     let section = Section::read(&entry.guid, entry.section);
-    let words = type_text(alloc, &entry.guid, &section)?;
-    let severity = Severity::from(entry.severity);
-    let line = entry_line(alloc, number, words.as_str(), severity)?;
-    into.extend_from_slice(line.as_bytes())?;
-    fru_id_line(alloc, into, entry.fru_id)?;
-    fru_text_line(into, entry.fru_text)?;
-    timestamp_line(alloc, into, entry.timestamp)?;
-    section_lines(alloc, into, &section)
+    entry_line(text, number, entry, &section)?;
+    fru_id_line(text, entry.fru_id)?;
+    fru_text_line(text, entry.fru_text)?;
+    timestamp_line(text, entry.timestamp)?;
+    section_lines(text, &section)
 }
 
-/// Appends the lines of the entries, which are numbered from 0.
-pub(crate) fn entries_text(
-    alloc: Global,
-    into: &mut Vec<u8>,
-    entries: Entries,
-) -> Result<(), AllocError>
+/// Adds the lines of the entries, which are numbered from 0.
+pub(crate) fn entries_text(text: &mut Text, entries: Entries) -> Result<(), AllocError>
     requires { length (entries_of entries) < 2 ^ 32 }
-    ensures { OnOk result (into.new.items ≡ into.old.items ++ entries_text 0 (entries_of entries.entry)) }
+    ensures ok { OnOk result (text.new.added ≡ text.old.added ++ entries_text 0 (entries_of entries.entry)) }
+    ensures front { text.new.front ≡ text.old.front }
 {
     let mut number = 0u32;
     for entry in entries {
-        entry_text(alloc, into, number, &entry)?;
+        entry_text(text, number, &entry)?;
         number += 1;
     }
     Ok(())

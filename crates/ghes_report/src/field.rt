@@ -1,133 +1,97 @@
-//! The lines of fields by how they are read. A field that is not given has none.
-ghost use Rattle.std.specs.Prelude.{◌≡◌, ◌++◌, codes, OnOk};
+//! The lines of fields, one for each row of a table whose field is given.
+ghost use Rattle.std.specs.Prelude.{◌≡◌, ◌≤◌, ◌++◌, length, map, OnOk};
+ghost use Rattle.std.specs.List.{flat_map};
 ghost use Rattle.std.specs.Option.{option_copied};
-ghost use Rattle.hex.specs.Hex.{encode_lower};
-ghost use Rattle.ghes_report.specs.Section.{field_head, number_line, list_line, quoted_line};
+ghost use Rattle.cper_sections.specs.Row.{field_of};
+ghost use Rattle.ghes_report.specs.Section.{field_head, number_line, list_line, quoted_line, field_line};
 
-use crate::bytes::{bytes_line, text_line};
-use std::alloc::{AllocError, Global};
+use crate::bytes::{bytes_line, digits, text_line};
+use crate::text::Text;
+use cper_sections::{Form, Row};
+use std::alloc::AllocError;
 
-// Appends what stands before the value of a field.
+// Adds what stands before the value of a field.
 #[tactic(auto, using(crate::proofs::Joining::grouped))]
-fn field_head(into: &mut Vec<u8>, name: &str) -> Result<(), AllocError>
-    ensures { OnOk result (into.new.items ≡ into.old.items ++ field_head name.now) }
+fn field_head(text: &mut Text, name: &str) -> Result<(), AllocError>
+    ensures ok { OnOk result (text.new.added ≡ text.old.added ++ field_head name.now) }
+    ensures front { text.new.front ≡ text.old.front }
 {
-    into.extend_from_slice(b"    ")?;
-    into.extend_from_slice(name.as_bytes())?;
-    into.extend_from_slice(b" ")
+    text.put(b"    ")?;
+    text.put(name.as_bytes())?;
+    text.put(b" ")
 }
 
-// Appends the line of a number by its bytes, the highest first.
-#[tactic(auto, using(crate::proofs::Joining::grouped))]
-fn digits_line(
-    alloc: Global,
-    into: &mut Vec<u8>,
+// Adds the line of a number of so many bytes, where it is given.
+#[tactic(auto, unfolding(crate::specs::Section::number_line), using(crate::proofs::Joining::grouped, crate::proofs::DigitLemmas::low_bytes))]
+fn number_line(
+    text: &mut Text,
     name: &str,
-    bytes: &[u8],
-) -> Result<(), AllocError>
-    ensures { OnOk result (into.new.items ≡
-        into.old.items ++ field_head name.now ++ codes "0x" ++ encode_lower bytes.now ++ codes "\n") }
-{
-    field_head(into, name)?;
-    into.extend_from_slice(b"0x")?;
-    let digits = hex::encode(alloc, bytes)?;
-    into.extend_from_slice(digits.as_bytes())?;
-    into.extend_from_slice(b"\n")
-}
-
-/// Appends the line of a number of one byte, where it is given.
-#[tactic(auto, unfolding(crate::specs::Section::number_line))]
-pub(crate) fn u8_line(
-    alloc: Global,
-    into: &mut Vec<u8>,
-    name: &str,
-    value: Option<u8>,
-) -> Result<(), AllocError>
-    ensures { OnOk result (into.new.items ≡ into.old.items ++ number_line name.now 1 value) }
-{
-    match value {
-        None => Ok(()),
-        Some(number) => digits_line(alloc, into, name, &number.to_be_bytes()),
-    }
-}
-
-/// Appends the line of a number of two bytes, where it is given.
-#[tactic(auto, unfolding(crate::specs::Section::number_line))]
-pub(crate) fn u16_line(
-    alloc: Global,
-    into: &mut Vec<u8>,
-    name: &str,
-    value: Option<u16>,
-) -> Result<(), AllocError>
-    ensures { OnOk result (into.new.items ≡ into.old.items ++ number_line name.now 2 value) }
-{
-    match value {
-        None => Ok(()),
-        Some(number) => digits_line(alloc, into, name, &number.to_be_bytes()),
-    }
-}
-
-/// Appends the line of a number of four bytes, where it is given.
-#[tactic(auto, unfolding(crate::specs::Section::number_line))]
-pub(crate) fn u32_line(
-    alloc: Global,
-    into: &mut Vec<u8>,
-    name: &str,
-    value: Option<u32>,
-) -> Result<(), AllocError>
-    ensures { OnOk result (into.new.items ≡ into.old.items ++ number_line name.now 4 value) }
-{
-    match value {
-        None => Ok(()),
-        Some(number) => digits_line(alloc, into, name, &number.to_be_bytes()),
-    }
-}
-
-/// Appends the line of a number of eight bytes, where it is given.
-#[tactic(auto, unfolding(crate::specs::Section::number_line))]
-pub(crate) fn u64_line(
-    alloc: Global,
-    into: &mut Vec<u8>,
-    name: &str,
+    width: usize,
     value: Option<u64>,
 ) -> Result<(), AllocError>
-    ensures { OnOk result (into.new.items ≡ into.old.items ++ number_line name.now 8 value) }
+    requires { width ≤ 8 }
+    ensures ok { OnOk result (text.new.added ≡ text.old.added ++ number_line name.now width value) }
+    ensures front { text.new.front ≡ text.old.front }
 {
-    match value {
-        None => Ok(()),
-        Some(number) => digits_line(alloc, into, name, &number.to_be_bytes()),
-    }
+    let Some(number) = value else {
+        return Ok(());
+    };
+    field_head(text, name)?;
+    text.put(b"0x")?;
+    digits(text, number.to_be_bytes().split_at(8 - width).1)?;
+    text.put(b"\n")
 }
 
-/// Appends the line of a list of bytes, where it is given.
+// Adds the line of a list of bytes, where it is given.
 #[tactic(auto, unfolding(crate::specs::Section::list_line, crate::specs::Bytes::bytes_line), using(crate::proofs::Joining::grouped))]
-pub(crate) fn list_line(
-    alloc: Global,
-    into: &mut Vec<u8>,
-    name: &str,
-    value: Option<&[u8]>,
-) -> Result<(), AllocError>
-    ensures { OnOk result (into.new.items ≡ into.old.items ++ list_line name.now (option_copied value.entry)) }
+fn list_line(text: &mut Text, name: &str, value: Option<&[u8]>) -> Result<(), AllocError>
+    ensures ok { OnOk result (text.new.added ≡ text.old.added ++ list_line name.now (option_copied value.entry)) }
+    ensures front { text.new.front ≡ text.old.front }
 {
     let Some(bytes) = value else {
         return Ok(());
     };
-    field_head(into, name)?;
-    bytes_line(alloc, into, "", bytes)
+    field_head(text, name)?;
+    bytes_line(text, "", bytes)
 }
 
-/// Appends the line of a text, where it is given.
+// Adds the line of a text, where it is given.
 #[tactic(auto, unfolding(crate::specs::Section::quoted_line, crate::specs::Bytes::text_line), using(crate::proofs::Joining::grouped))]
-pub(crate) fn quoted_line(
-    into: &mut Vec<u8>,
-    name: &str,
-    value: Option<&[u8]>,
-) -> Result<(), AllocError>
-    ensures { OnOk result (into.new.items ≡ into.old.items ++ quoted_line name.now (option_copied value.entry)) }
+fn quoted_line(text: &mut Text, name: &str, value: Option<&[u8]>) -> Result<(), AllocError>
+    ensures ok { OnOk result (text.new.added ≡ text.old.added ++ quoted_line name.now (option_copied value.entry)) }
+    ensures front { text.new.front ≡ text.old.front }
 {
-    let Some(text) = value else {
+    let Some(bytes) = value else {
         return Ok(());
     };
-    field_head(into, name)?;
-    text_line(into, "", text)
+    field_head(text, name)?;
+    text_line(text, "", bytes)
+}
+
+// Adds the line of the field of a row, where it is given.
+#[tactic(auto, using(cper_sections::proofs::RowLemmas::most_width))]
+fn field_line(text: &mut Text, row: &Row, bytes: &[u8]) -> Result<(), AllocError>
+    requires { 8 ≤ length bytes.now }
+    ensures ok { OnOk result (text.new.added ≡ text.old.added ++ field_line bytes.now (field_of row.now)) }
+    ensures front { text.new.front ≡ text.old.front }
+{
+    match row.form {
+        Form::Number => number_line(text, row.name, row.width, row.number(bytes)),
+        Form::Bytes => list_line(text, row.name, row.bytes(bytes)),
+        Form::Text => quoted_line(text, row.name, row.text(bytes)),
+    }
+}
+
+/// Adds the lines of the fields of a section, by the rows of its table.
+pub(crate) fn field_lines(text: &mut Text, rows: &[Row], bytes: &[u8]) -> Result<(), AllocError>
+    requires { 8 ≤ length bytes.now }
+    ensures ok { OnOk result (text.new.added ≡ text.old.added ++ flat_map (field_line bytes.now) (map field_of rows.now)) }
+    ensures front { text.new.front ≡ text.old.front }
+{
+    let mut rest = rows;
+    while let Some((row, behind)) = rest.split_first() {
+        field_line(text, row, bytes)?;
+        rest = behind;
+    }
+    Ok(())
 }

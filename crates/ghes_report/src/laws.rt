@@ -1,12 +1,7 @@
 //! Laws over the texts, each the contract of a function that does nothing.
-ghost use Rattle.std.specs.Prelude.{◌≡◌, ◌≤◌, ℕ, List, ◌++◌, None};
+ghost use Rattle.std.specs.Prelude.{◌≡◌, ℕ, List, ◌++◌, None};
 ghost use Rattle.cper_block.specs.Block.{Judges};
 ghost use Rattle.ghes_report.specs.Body.{block_text};
-
-/// A block that is well formed under a limit is well formed under a higher one, and so has a text.
-pub fn a_higher_limit_lets_a_block_in()
-    ensures { (bytes : List ℕ) (low high : ℕ) → low ≤ high → Judges bytes low None → Judges bytes high None }
-{}
 
 /// The lines of a block are those of its own bytes: what lies behind it is not printed.
 pub fn bytes_behind_a_block_are_not_printed()

@@ -11,6 +11,7 @@ mod report;
 mod section;
 #[cfg(test)]
 mod tests;
+mod text;
 
-pub use laws::{a_higher_limit_lets_a_block_in, bytes_behind_a_block_are_not_printed};
+pub use laws::bytes_behind_a_block_are_not_printed;
 pub use report::{block_text, drop_text, malformed_lines, report_text};

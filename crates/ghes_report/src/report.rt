@@ -1,37 +1,100 @@
-ghost use Rattle.std.specs.Prelude.{◌≡◌, ◌++◌, OnOk, OnErr, IfOk, None};
-ghost use Rattle.std.specs.String.{string_bytes};
-ghost use Rattle.cper_block.specs.Block.{Judges};
+//! The texts of a block that is reported, of one that is dropped, of one alone and of a malformed one.
+ghost use Rattle.std.specs.Prelude.{◌≡◌, ◌++◌, OnOk, OnErr, codes, None};
+ghost use Rattle.std.specs.Fmt.{decimal};
+ghost use Rattle.cper_block.specs.Block.{Judges, largest_block};
+ghost use Rattle.cper_block.specs.Text.{malformed_rest, malformed_text};
 ghost use Rattle.ghes_report.specs.Body.{block_text};
 ghost use Rattle.ghes_report.specs.Report.{report_line, report_text, drop_line, drop_text, reason_line, malformed_lines};
 
 use crate::body::body_text;
 use crate::bytes::bytes_line;
+use crate::text::Text;
 use cper_block::Malformed;
 use std::alloc::{AllocError, Global};
 
-// Most texts have fewer bytes, and are made without growing.
-const ROOM: usize = 512;
-
-// The line of a reported block.
-#[tactic(auto, using(crate::proofs::Joining::grouped), unfolding(crate::specs::Report::report_line))]
-fn report_line(alloc: Global, id: u16, seq: u32) -> Result<String, AllocError>
-    ensures { IfOk result (λ line. string_bytes line ≡ report_line id seq) }
+// Adds a source's id and a block's number behind a head.
+#[tactic(auto, using(crate::proofs::Joining::grouped))]
+fn source_and_block(text: &mut Text, head: &str, id: u16, seq: u32) -> Result<(), AllocError>
+    ensures ok { OnOk result (text.new.added ≡ text.old.added ++ head.now ++ decimal id ++ codes " block " ++ decimal seq) }
+    ensures front { text.new.front ≡ text.old.front }
 {
-    format!(in alloc; "report source {id} block {seq}\n")
+    text.put(head.as_bytes())?;
+    text.put_number(u32::from(id))?;
+    text.put(b" block ")?;
+    text.put_number(seq)
 }
 
-// The line of a dropped block.
-fn drop_line(alloc: Global, id: u16, seq: u32, reason: &Malformed) -> Result<String, AllocError>
-    ensures { IfOk result (λ line. string_bytes line ≡ drop_line id seq reason.now) }
+// Adds the line of a reported block.
+#[tactic(auto, using(crate::proofs::Joining::grouped), unfolding(crate::specs::Report::report_line))]
+fn report_line(text: &mut Text, id: u16, seq: u32) -> Result<(), AllocError>
+    ensures ok { OnOk result (text.new.added ≡ text.old.added ++ report_line id seq) }
+    ensures front { text.new.front ≡ text.old.front }
 {
-    format!(in alloc; "dropped source {id} block {seq}: {reason}\n")
+    source_and_block(text, "report source ", id, seq)?;
+    text.put(b"\n")
+}
+
+// Adds how the words for a malformed block go on where there is a number of entries.
+#[tactic(auto, using(crate::proofs::Joining::grouped))]
+fn reason_rest(text: &mut Text, reason: Malformed) -> Result<(), AllocError>
+    ensures ok { OnOk result (text.new.added ≡ text.old.added ++ malformed_rest reason) }
+    ensures front { text.new.front ≡ text.old.front }
+{
+    match reason {
+        Malformed::EntryTruncated(whole) => {
+            text.put_number(whole)?;
+            text.put(b" truncated")
+        }
+        _ => Ok(()),
+    }
+}
+
+// Adds the words for a malformed block.
+#[tactic(auto, using(crate::proofs::Joining::grouped))]
+fn reason_text(text: &mut Text, reason: Malformed) -> Result<(), AllocError>
+    ensures ok { OnOk result (text.new.added ≡ text.old.added ++ malformed_text reason) }
+    ensures front { text.new.front ≡ text.old.front }
+{
+    text.put(reason.word().as_bytes())?;
+    reason_rest(text, reason)
+}
+
+// Adds the words for a malformed block and the end of their line.
+#[tactic(auto, using(crate::proofs::Joining::grouped))]
+fn reason_end(text: &mut Text, reason: Malformed) -> Result<(), AllocError>
+    ensures ok { OnOk result (text.new.added ≡ text.old.added ++ malformed_text reason ++ codes "\n") }
+    ensures front { text.new.front ≡ text.old.front }
+{
+    reason_text(text, reason)?;
+    text.put(b"\n")
+}
+
+// Adds the line of a dropped block.
+#[tactic(auto, using(crate::proofs::Joining::grouped), unfolding(crate::specs::Report::drop_line))]
+fn drop_line(text: &mut Text, id: u16, seq: u32, reason: Malformed) -> Result<(), AllocError>
+    ensures ok { OnOk result (text.new.added ≡ text.old.added ++ drop_line id seq reason) }
+    ensures front { text.new.front ≡ text.old.front }
+{
+    source_and_block(text, "dropped source ", id, seq)?;
+    text.put(b": ")?;
+    reason_end(text, reason)
+}
+
+// Adds the text of a reported block.
+#[tactic(auto, using(crate::proofs::Joining::grouped), unfolding(crate::specs::Report::report_text))]
+fn report(text: &mut Text, id: u16, seq: u32, block: &[u8]) -> Result<(), AllocError>
+    requires { Judges block.now largest_block None }
+    ensures ok { OnOk result (text.new.added ≡ text.old.added ++ report_text id seq block.now) }
+    ensures front { text.new.front ≡ text.old.front }
+{
+    report_line(text, id, seq)?;
+    body_text(text, block)
 }
 
 /// Appends the text of a block that is reported: its source's id, its number, and its lines.
 ///
 /// `block` begins with a well-formed block of at most 65,536 bytes; what lies behind it is not printed.
 /// After an error `into` is as it was. Source of the words: own choice.
-#[tactic(auto, using(crate::proofs::Joining::grouped), unfolding(crate::specs::Report::report_text))]
 pub fn report_text(
     alloc: Global,
     into: &mut Vec<u8>,
@@ -39,21 +102,34 @@ pub fn report_text(
     seq: u32,
     block: &[u8],
 ) -> Result<(), AllocError>
-    requires { Judges block.now 65536 None }
+    requires { Judges block.now largest_block None }
     ensures ok { OnOk result (into.new.items ≡ into.old.items ++ report_text id seq block.now) }
     ensures err { OnErr result (into.new.items ≡ into.old.items) }
 {
-    let mut text = Vec::with_capacity(alloc, ROOM)?;
-    let line = report_line(alloc, id, seq)?;
-    text.extend_from_slice(line.as_bytes())?;
-    body_text(alloc, &mut text, block)?;
-    into.extend_from_slice(&text)
+    let mut text = Text::open(alloc, into);
+    let done = report(&mut text, id, seq, block);
+    text.close(into, done)
+}
+
+// Adds the text of a dropped block.
+#[tactic(auto, using(crate::proofs::Joining::grouped), unfolding(crate::specs::Report::drop_text))]
+fn dropped(
+    text: &mut Text,
+    id: u16,
+    seq: u32,
+    reason: Malformed,
+    bytes: &[u8],
+) -> Result<(), AllocError>
+    ensures ok { OnOk result (text.new.added ≡ text.old.added ++ drop_text id seq reason bytes.now) }
+    ensures front { text.new.front ≡ text.old.front }
+{
+    drop_line(text, id, seq, reason)?;
+    bytes_line(text, "  data ", bytes)
 }
 
 /// Appends the text of a block that is dropped as malformed: its source's id, its number, why, and its bytes.
 ///
 /// After an error `into` is as it was. Source of the words: own choice.
-#[tactic(auto, using(crate::proofs::Joining::grouped), unfolding(crate::specs::Report::drop_text))]
 pub fn drop_text(
     alloc: Global,
     into: &mut Vec<u8>,
@@ -65,9 +141,9 @@ pub fn drop_text(
     ensures ok { OnOk result (into.new.items ≡ into.old.items ++ drop_text id seq reason.now bytes.now) }
     ensures err { OnErr result (into.new.items ≡ into.old.items) }
 {
-    let mut text = drop_line(alloc, id, seq, reason)?.into_bytes();
-    bytes_line(alloc, &mut text, "  data ", bytes)?;
-    into.extend_from_slice(&text)
+    let mut text = Text::open(alloc, into);
+    let done = dropped(&mut text, id, seq, *reason, bytes);
+    text.close(into, done)
 }
 
 /// Appends the lines of a block: its severity, its entries in order, and how many raw bytes it has.
@@ -75,26 +151,29 @@ pub fn drop_text(
 /// `block` begins with a well-formed block of at most 65,536 bytes; what lies behind it is not printed.
 /// After an error `into` is as it was. Source of the words: own choice.
 pub fn block_text(alloc: Global, into: &mut Vec<u8>, block: &[u8]) -> Result<(), AllocError>
-    requires { Judges block.now 65536 None }
+    requires { Judges block.now largest_block None }
     ensures ok { OnOk result (into.new.items ≡ into.old.items ++ block_text block.now) }
     ensures err { OnErr result (into.new.items ≡ into.old.items) }
 {
-    let mut text = Vec::with_capacity(alloc, ROOM)?;
-    body_text(alloc, &mut text, block)?;
-    into.extend_from_slice(&text)
+    let mut text = Text::open(alloc, into);
+    let done = body_text(&mut text, block);
+    text.close(into, done)
 }
 
-// The line of the reason why a block is malformed.
-fn reason_line(alloc: Global, reason: &Malformed) -> Result<String, AllocError>
-    ensures { IfOk result (λ line. string_bytes line ≡ reason_line reason.now) }
+// Adds the lines of a malformed block.
+#[tactic(auto, using(crate::proofs::Joining::grouped), unfolding(crate::specs::Report::malformed_lines, crate::specs::Report::reason_line))]
+fn malformed(text: &mut Text, reason: Malformed, bytes: &[u8]) -> Result<(), AllocError>
+    ensures ok { OnOk result (text.new.added ≡ text.old.added ++ malformed_lines reason bytes.now) }
+    ensures front { text.new.front ≡ text.old.front }
 {
-    format!(in alloc; "  malformed {reason}\n")
+    text.put(b"  malformed ")?;
+    reason_end(text, reason)?;
+    bytes_line(text, "  data ", bytes)
 }
 
 /// Appends the lines of a malformed block: why it is, and its bytes.
 ///
 /// After an error `into` is as it was.
-#[tactic(auto, using(crate::proofs::Joining::grouped), unfolding(crate::specs::Report::malformed_lines))]
 pub fn malformed_lines(
     alloc: Global,
     into: &mut Vec<u8>,
@@ -104,7 +183,7 @@ pub fn malformed_lines(
     ensures ok { OnOk result (into.new.items ≡ into.old.items ++ malformed_lines reason.now bytes.now) }
     ensures err { OnErr result (into.new.items ≡ into.old.items) }
 {
-    let mut lines = reason_line(alloc, reason)?.into_bytes();
-    bytes_line(alloc, &mut lines, "  data ", bytes)?;
-    into.extend_from_slice(&lines)
+    let mut text = Text::open(alloc, into);
+    let done = malformed(&mut text, *reason, bytes);
+    text.close(into, done)
 }

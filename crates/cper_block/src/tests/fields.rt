@@ -1,6 +1,6 @@
 // What the parts of a block and the fields of its entries are.
 use super::{LIMIT, MEMORY, TWO, TWO_WITH_ALL, with_zeros};
-use crate::{Block, Header, Severity};
+use crate::{Block, Header, LARGEST_BLOCK, Severity};
 use hex::FromHex;
 use std::test::Fail;
 use uuid::Uuid;
@@ -97,13 +97,24 @@ fn a_block_without_data_has_no_entry_and_all_its_raw_bytes(rt: HostRuntime) -> R
         ("0200000000000000000000000000000002000000", 0, 0),
         ("0200000000000000000000000000000002000000", 9, 0),
         ("0200000014000000010000000000000002000000", 1, 1),
-        ("0200000014000000ec0f00000000000002000000", 4076, 4076),
+        ("0200000014000000ecff00000000000002000000", 65516, 65516),
     ] {
         let bytes = with_zeros(rt.alloc(), front, zeros)?;
-        let block = Block::read(&bytes, LIMIT)?;
+        let block = Block::read(&bytes, LARGEST_BLOCK)?;
         assert_eq!(rt; block.raw().len(), raw, "{raw} of {zeros}");
         assert!(rt; block.entries().next().is_none(), "{raw} of {zeros}");
     }
+    Ok(())
+}
+
+#[test]
+fn a_thousand_entries_are_given(rt: HostRuntime) -> Result<(), Fail> {
+    let front = "020000000000000000000000\
+        00fa000002000000";
+    let bytes = with_zeros(rt.alloc(), front, 64000)?;
+    let read = Block::read(&bytes, LARGEST_BLOCK)?;
+    assert_eq!(rt; read.entries().count(), 1000);
+    assert_eq!(rt; Block::of(&bytes).entries().count(), 1000);
     Ok(())
 }
 

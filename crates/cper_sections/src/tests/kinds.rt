@@ -34,29 +34,3 @@ fn a_guid_names_a_kind_as_it_lies_in_a_block(rt: HostRuntime) -> Result<(), Fail
     }
     Ok(())
 }
-
-#[test]
-fn a_section_of_another_type_lends_all_its_bytes(rt: HostRuntime) -> Result<(), Fail> {
-    let guid = Uuid::parse_str("6b1d0c52-98f4-4c3a-8e0b-2f7a51c0d9e3")?;
-    let bytes = counted(0x12);
-    for length in [0, 1, 8, 216] {
-        let front = bytes.split_at(length).0;
-        let Section::Other(lent) = Section::read(&guid, front) else {
-            panic!(rt; "a kind for {length} bytes");
-        };
-        assert_eq!(rt; lent, front, "of {length} bytes");
-    }
-    Ok(())
-}
-
-#[test]
-fn each_kind_has_its_word(rt: HostRuntime) -> Result<(), Fail> {
-    for (kind, word) in [
-        (Kind::Memory, "memory"),
-        (Kind::Processor, "processor"),
-        (Kind::Pcie, "pcie"),
-    ] {
-        assert_eq!(rt; format!(in rt.alloc(); "{kind}")?.as_str(), word);
-    }
-    Ok(())
-}

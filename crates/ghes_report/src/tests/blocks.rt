@@ -110,3 +110,36 @@ fn a_drop_has_its_reason_and_all_its_bytes(rt: HostRuntime) -> Result<(), Fail> 
     }
     Ok(())
 }
+
+// A front and how many zero bytes make it a large block, how long its lines are, and how they end.
+const LARGE: [(&str, usize, usize, &str); 2] = [
+    // 1,000 entries without a section.
+    (
+        "02000000000000000000000000fa000002000000",
+        64000,
+        92911,
+        "\n    data empty\n",
+    ),
+    // One entry, whose section fills the largest block.
+    (
+        "020000000000000000000000ecff000002000000\
+        000000000000000000000000000000000000000000000000acff0000",
+        65488,
+        131011,
+        "00000000\n",
+    ),
+];
+
+#[test]
+fn large_blocks_are_told_whole(rt: HostRuntime) -> Result<(), Fail> {
+    for (front, zeros, length, end) in &LARGE {
+        let mut bytes = hex::decode(rt.alloc(), front)?;
+        for _ in 0..*zeros {
+            bytes.push(0)?;
+        }
+        let lines = lines_of(rt.alloc(), &bytes)?;
+        assert_eq!(rt; lines.len(), *length, "at {front}");
+        assert!(rt; lines.as_slice().ends_with(end.as_bytes()), "at {front}");
+    }
+    Ok(())
+}

@@ -3,4 +3,6 @@ use Rattle.ghes_report.specs.Bytes.{shown_text}
 use Rattle.ghes_report.proofs.bytes.shown_text.Given as goal
 
 abbrev pub invariant-loop-byte : goal.invariant-loop-byte
-invariant-loop-byte l = l.into.items ++ shown_text (drop l.byte-index l.bytes) ≡ l.fn.into.items ++ shown_text l.bytes
+invariant-loop-byte l =
+    (l.text.added ++ shown_text (drop l.byte-index l.bytes) ≡ l.fn.text.added ++ shown_text l.bytes)
+    × (l.text.front ≡ l.fn.text.front)
