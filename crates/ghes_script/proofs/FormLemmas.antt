@@ -1,5 +1,5 @@
 -- What each form of a line asks for is allowed.
-use Rattle.std.proofs.Common.{◌≡◌, ◌≢◌, ◌<◌, ◌≤◌, ◌+◌, ◌^◌, ℕ, Bool, true, false, cond, not, ◌&&◌, ◌||◌, eqb, ltb, leb, bytes_eq, codes, List, [], ◌∷◌, length, drop, Option, Some, None, Result, Ok, Err, IfOk, IfSome, suc, refl, sym, ap, subst, ◌∙◌, arith}
+use Rattle.std.proofs.Common.{◌≡◌, ◌≢◌, ◌<◌, ◌≤◌, ◌+◌, ◌^◌, ℕ, Bool, true, false, cond, not, ◌&&◌, eqb, ltb, leb, bytes_eq, codes, List, [], ◌∷◌, length, drop, Option, Some, None, Result, Ok, Err, IfOk, IfSome, suc, refl, sym, ap, ◌∙◌, arith}
 use Rattle.std.specs.Prelude.{slice_get}
 use Rattle.std.specs.List.{list_all}
 use Rattle.std.specs.Char.{is_digit}
@@ -18,7 +18,6 @@ use Rattle.ghes_script.specs.Sound.{IsSource, IsAcked, IsRaised, FitsPlace, IsAl
 use Rattle.ghes_script.specs.Words.{none_of, one_of, two_of}
 use Rattle.ghes_script.specs.declared.error.ScriptKind.{ScriptKind}
 use Rattle.ghes_script.specs.declared.error.ScriptKind.TheVariants.{Command, Number, Range, NoInjection, Words, Source}
-use Rattle.ghes_script.specs.declared.line.Class.{Class}
 use Rattle.ghes_script.specs.declared.line.What.{What}
 use Rattle.ghes_script.specs.declared.line.What.TheVariants as asks
 use Rattle.ghes_script.specs.declared.name.Name.{Name}

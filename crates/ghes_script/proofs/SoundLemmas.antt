@@ -1,11 +1,11 @@
 -- What is read of a script is allowed, and its settings and times come in order.
-use Rattle.std.proofs.Common.{◌≡◌, ◌≤◌, ℕ, ◌+◌, Bool, true, false, cond, not, ◌&&◌, ltb, leb, List, [], ◌∷◌, length, Result, Ok, Err, IfOk, refl, sym, ap, subst, ◌∙◌, arith}
+use Rattle.std.proofs.Common.{◌≡◌, ◌≤◌, ℕ, ◌+◌, Bool, true, false, cond, not, ◌&&◌, ltb, List, [], ◌∷◌, length, Result, Ok, Err, IfOk, refl, subst, arith}
 use Rattle.std.specs.List.{list_all, AllByRecursion}
 use Rattle.std.specs.Prelude.{MatchBool}
 use Rattle.std.proofs.lemmas.Bool.{leb-true}
 use Rattle.ghes_script.specs.Answer.{is_printable, is_comment, in_order, words_answer, answer_of}
 use Rattle.ghes_script.specs.Asked.{asked}
-use Rattle.ghes_script.specs.Script.{BadLine, with_line, read_line, reads_from, reads, IsScript}
+use Rattle.ghes_script.specs.Script.{BadLine, with_line, read_line, reads_from, IsScript}
 use Rattle.ghes_script.specs.Setup.{Setup}
 use Rattle.ghes_script.specs.Sofar.{start, is_in_order, after}
 use Rattle.ghes_script.specs.Sound.{IsAllowed, AreAllowed, is_setting, AreSettingsFirst, time_after, DoesNotFall}

@@ -1,11 +1,11 @@
 -- A line that raises a block, and a line that injects an error, have a spelling.
-use Rattle.std.proofs.Common.{◌≡◌, ◌≢◌, ◌<◌, ◌≤◌, ◌+◌, ◌-◌, ◌*◌, ◌^◌, ℕ, Bool, true, false, cond, ◌&&◌, not, eqb, ltb, leb, codes, List, [], ◌∷◌, length, Option, Some, None, Result, Ok, Err, refl, sym, ap, ◌∙◌, arith}
+use Rattle.std.proofs.Common.{◌≡◌, ◌≢◌, ◌<◌, ◌≤◌, ◌-◌, ◌*◌, ◌^◌, ℕ, Bool, true, false, cond, ◌&&◌, not, eqb, leb, codes, List, [], ◌∷◌, length, Some, None, Result, Ok, Err, refl, ap, ◌∙◌, arith}
 use Rattle.std.specs.Prelude.{is_some}
 use Rattle.std.specs.List.{AllByRecursion}
 use Rattle.std.proofs.lemmas.Bool.{le-leb, leb-true, ne_eqb}
 use Rattle.std.proofs.lemmas.List.Elements.{recursion_from_All}
 use Rattle.byteorder.specs.Endian.{little_number}
-use Rattle.hex.specs.Hex.{IsBytes, encode_lower, decode_of, is_hex_digit, hex_digit_value}
+use Rattle.hex.specs.Hex.{IsBytes, encode_lower, is_hex_digit}
 use Rattle.hex.proofs.HexLemmas.{decode_of-encode_lower, decode_of-ok}
 use Rattle.apei_einj.specs.Request.{is_error_type}
 use Rattle.apei_einj.specs.declared.request.Place.{Place}
@@ -13,7 +13,7 @@ use Rattle.apei_einj.specs.declared.request.Place.TheVariants as places
 use Rattle.apei_einj.specs.declared.request.Request.{Request}
 use Rattle.ghes_script.specs.Asked.{or_hex, is_block, block_of, raised, raise, place_form, memory_place, processor_place, pcie_place, place_of, table_form, error_of, injection, inject, asked_by, asked}
 use Rattle.ghes_script.specs.Name.{setting_of, command_of}
-use Rattle.ghes_script.specs.Number.{◌>>=◌, number, number_below}
+use Rattle.ghes_script.specs.Number.{◌>>=◌, number}
 use Rattle.ghes_script.specs.Setup.{Setup, source_of}
 use Rattle.ghes_script.specs.Sound.{IsRaised, FitsPlace}
 use Rattle.ghes_script.specs.Spelling.{MayCome, HasSpelling}

@@ -1,33 +1,24 @@
 -- What may come has a spelling, form by form.
-use Rattle.std.proofs.Common.{◌≡◌, ◌≢◌, ◌<◌, ◌≤◌, ◌+◌, ◌*◌, ◌^◌, ℕ, Bool, true, false, cond, ◌&&◌, ◌||◌, eqb, ltb, leb, not, codes, List, [], ◌∷◌, ◌++◌, length, Result, Ok, Err, refl, sym, ap, subst, ◌∙◌, arith}
+use Rattle.std.proofs.Common.{◌≡◌, ◌<◌, ◌≤◌, ◌^◌, ℕ, Bool, true, false, cond, ◌&&◌, ltb, leb, not, codes, List, [], ◌∷◌, length, Result, Ok, refl, sym, ap, ◌∙◌, arith}
 use Rattle.std.specs.List.{AllByRecursion, list_all}
-use Rattle.std.proofs.lemmas.Bool.{lt-ltb, le-ltb, le-leb, leb-true, ltb-true, ne_eqb}
-use Rattle.std.proofs.lemmas.Bool.Decides.{nat_tests}
-use Rattle.byteorder.specs.Endian.{little_number}
-use Rattle.hex.specs.Hex.{IsBytes, encode_lower, encode_with, lower_digits, decode_of}
-use Rattle.hex.proofs.HexLemmas.{length-encode_with, decode_of-encode_lower}
-use Rattle.apei_einj.specs.Request.{is_error_type}
-use Rattle.apei_einj.specs.declared.request.Place.{Place}
-use Rattle.apei_einj.specs.declared.request.Place.TheVariants as places
+use Rattle.std.proofs.lemmas.Bool.{le-ltb, leb-true, ltb-true}
 use Rattle.apei_einj.specs.declared.request.Request.{Request}
 use Rattle.ghes_script.specs.Answer.{is_printable, is_comment, in_order, words_answer, answer_of}
-use Rattle.ghes_script.specs.Asked.{slots, contexts, serve, ackcell, available, busy, status, route, clock, or_hex, is_block, block_of, raised, raise, nmi, work, run, peek, fail, place_form, memory_place, processor_place, pcie_place, place_of, table_form, error_of, injection, inject, asked_by, asked}
+use Rattle.ghes_script.specs.Asked.{slots, contexts, serve, ackcell, available, busy, status, route, clock, nmi, work, run, peek, fail, asked_by, asked}
 use Rattle.ghes_script.specs.Name.{setting_of, command_of, class_of}
 use Rattle.ghes_script.specs.Number.{or_kind, ◌>>=◌, number, number_within, number_below}
 use Rattle.ghes_script.specs.Setup.{Setup, source_of, acked_source_of}
 use Rattle.ghes_script.specs.Sofar.{is_in_order}
-use Rattle.ghes_script.specs.Sound.{IsRaised, FitsPlace, IsAllowed}
 use Rattle.ghes_script.specs.Spelling.{MayCome, HasSpelling}
 use Rattle.ghes_script.specs.Words.{words_of}
 use Rattle.ghes_script.specs.declared.answer.Answer.TheVariants.{Skipped, Asks, Bad}
 use Rattle.ghes_script.specs.declared.error.ScriptKind.{ScriptKind}
-use Rattle.ghes_script.specs.declared.error.ScriptKind.TheVariants.{Order, Unprintable, TooLong, Range, Source, NoInjection}
+use Rattle.ghes_script.specs.declared.error.ScriptKind.TheVariants.{Order, Unprintable, TooLong, Range}
 use Rattle.ghes_script.specs.declared.line.Class.{Class}
 use Rattle.ghes_script.specs.declared.line.Class.TheVariants as classes
 use Rattle.ghes_script.specs.declared.line.What.{What}
 use Rattle.ghes_script.specs.declared.line.What.TheVariants as asks
 use Rattle.ghes_script.specs.declared.sofar.Sofar.{Sofar}
-use Rattle.ghes_script.proofs.InjectLemmas.{injection_of}
 use Rattle.ghes_script.proofs.SpellLemmas.{Plain, IsWord, joined, size, length-joined, words_of-joined, printable-joined, Spells, number_word, within_word, below_word, source_word, acked_word}
 
 -- words that are read as what they ask for, joined

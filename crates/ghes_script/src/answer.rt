@@ -1,5 +1,5 @@
 //! What one line of a script answers.
-ghost use Rattle.std.specs.Prelude.{◌≡◌, IfOk};
+ghost use Rattle.std.specs.Prelude.{◌≡◌, ◌&&◌, IfOk};
 ghost use Rattle.std.specs.List.{list_all};
 ghost use Rattle.ghes_script.specs.Answer.{is_printable, is_comment, in_order, words_answer, answer_of};
 ghost use Rattle.ghes_script.specs.Words.{words_of};
@@ -25,11 +25,28 @@ pub(crate) enum Answer {
 /// How many bytes a line may have.
 const LINE_LIMIT: usize = 132_000;
 
-// Whether each byte may stand in a line.
+// Whether a byte may stand in a line.
+fn is_printable(byte: u8) -> bool
+    ensures { result ≡ is_printable byte }
+{
+    byte >= b' ' && byte <= b'~'
+}
+
+fn both(one: bool, other: bool) -> bool
+    ensures { result ≡ (one && other) }
+{
+    one && other
+}
+
+// Whether each byte may stand in a line. All are looked at, so that the compiler takes many at once.
 fn are_printable(text: &[u8]) -> bool
     ensures { result ≡ list_all is_printable text.now }
 {
-    text.iter().all(|byte| *byte >= b' ' && *byte <= b'~')
+    let mut good = true;
+    for byte in text {
+        good = both(good, is_printable(*byte));
+    }
+    good
 }
 
 // Whether a word begins a comment.

@@ -1,5 +1,5 @@
 -- The digits so far are those of the value, and those behind it are still to be read.
-use Rattle.std.proofs.Common.{◌≡◌, ◌<◌, ◌≤◌, ◌+◌, ◌*◌, ◌^◌, ◌≢◌, length, get_or, drop, sym, ◌∙◌, arith}
+use Rattle.std.proofs.Common.{◌≡◌, ◌<◌, ◌+◌, ◌*◌, ◌^◌, ◌≢◌, length, get_or, drop, sym, ◌∙◌, arith}
 use Rattle.std.proofs.lemmas.Bool.{eqb-true, eqb-false}
 use Rattle.std.proofs.lemmas.List.{at_drop_more, at_drop_all}
 use Rattle.ghes_script.proofs.NumberLemmas.{numeral_after, numeral-some, numeral-none, numeral_after-end, numeral_after-other, numeral_after-large, numeral_after-digit}
