@@ -1,0 +1,11 @@
+pub mod CutLemmas
+pub mod FormLemmas
+pub mod InjectLemmas
+pub mod NumberLemmas
+pub mod OneReading
+pub mod Scanning
+pub mod SoundLemmas
+pub mod SpellBlocks
+pub mod SpellForms
+pub mod SpellLemmas
+pub mod WordLemmas

@@ -1,0 +1,12 @@
+pub mod Answer
+pub mod Asked
+pub mod Cut
+pub mod Name
+pub mod Number
+pub mod Script
+pub mod Setup
+pub mod Sofar
+pub mod Sound
+pub mod Spelling
+pub mod Text
+pub mod Words
