@@ -2,12 +2,11 @@
 use Rattle.std.proofs.Common.{◌≡◌, ℕ, ◌+◌, ◌<◌, ◌==◌, Bool, true, false, List, [], ◌∷◌, ◌++◌, length, refl, ap, sym, subst, arith, inl, length-append, None}
 use Rattle.std.proofs.lemmas.List.{append-nil}
 use Rattle.std.proofs.lemmas.Bool.Decides.{nat_tests}
-use mathlib.Core.List.{IsPrefix}
 use prog.Atomic.{either}
 use Rattle.logbook.specs.Pages.{Cell, cell, keeps, no_nib, step, Moves, Goes}
 use Rattle.ghes_throttle.specs.declared.report.Report.{Report}
 use Rattle.ghes_throttle.specs.declared.report.Version.{Version}
-use Rattle.ghes_throttle.specs.History.{IsKept, Adds, newest, newest_after}
+use Rattle.ghes_throttle.specs.History.{IsKept, Adds, newest_after}
 
 abbrev pub shown : List Version → List Version
 shown log = []

@@ -1,8 +1,8 @@
 -- The places after one report more.
-use Rattle.std.proofs.Common.{◌≡◌, ℕ, ◌+◌, ◌<◌, ◌≤◌, List, [], ◌∷◌, ◌++◌, length, refl, ap, sym, ◌∙◌, arith, set, slice_set}
+use Rattle.std.proofs.Common.{◌≡◌, ℕ, ◌+◌, List, [], ◌∷◌, ◌++◌, length, refl, ap, ◌∙◌, arith}
 use Rattle.std.proofs.Math.ListN.{length-set}
 use Rattle.ghes_throttle.specs.declared.report.Report.{Report}
-use Rattle.ghes_throttle.specs.Cache.{PlaceState, with_put, place_for, place_with, empty_places}
+use Rattle.ghes_throttle.specs.Cache.{PlaceState, with_put, empty_places}
 use Rattle.ghes_throttle.specs.Reports.{places_after, cache_of}
 
 -- the places after a list and one report

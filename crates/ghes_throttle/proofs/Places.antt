@@ -1,5 +1,5 @@
 -- The place that a report takes is one of the places.
-use Rattle.std.proofs.Common.{◌≡◌, ℕ, ◌+◌, ◌<◌, ◌≤◌, Bool, true, false, List, [], ◌∷◌, length, refl, ap, sym, ◌∙◌, arith, suc, Option, Some, None, option_map, unwrap_or, IfSome, if◌then◌else◌, IsTrue}
+use Rattle.std.proofs.Common.{ℕ, ◌<◌, Bool, true, false, List, [], ◌∷◌, length, arith, suc, Option, Some, None, option_map, unwrap_or, IfSome, if◌then◌else◌}
 use Rattle.ghes_throttle.specs.Cache.{PlaceState, first_at, place_for, is_empty, is_over, is_least}
 
 -- a number that is one more is below a length that is one more

@@ -1,5 +1,5 @@
 -- What keeps the rule of what is shown.
-use Rattle.std.proofs.Common.{◌≡◌, ℕ, ◌≢◌, List, [], ◌∷◌, ◌++◌, Some, None, Option, IfSome, set, refl, sym, ◌∙◌, subst, ⊎_elim, arith, ap, length, zero, suc, ◌+◌, nat_le, true}
+use Rattle.std.proofs.Common.{◌≡◌, ℕ, ◌≢◌, List, [], ◌∷◌, Some, None, Option, IfSome, set, refl, sym, ◌∙◌, subst, ⊎_elim, arith, ap, length, zero, suc, nat_le, true}
 use Rattle.std.proofs.lemmas.Bool.Decides.{nat_tests}
 use mathlib.Core.Option.{some}
 use lib.ListN.{get_elem?}
@@ -9,7 +9,7 @@ use Rattle.ghes_throttle.specs.declared.shown.Shown.{Shown}
 use Rattle.ghes_throttle.specs.declared.shown.Line.{Line}
 use Rattle.ghes_throttle.specs.declared.shown.Change.TheVariants.{Put}
 use Rattle.ghes_throttle.specs.Cache.{put_into, with_put}
-use Rattle.ghes_throttle.specs.Reports.{cache_of, with_report, report_of}
+use Rattle.ghes_throttle.specs.Reports.{cache_of, report_of}
 use Rattle.ghes_throttle.specs.Shown.{IsRuled, Precedes, Sees, ShowsItsList, Follows, changed}
 use Rattle.ghes_throttle.proofs.Caching.{cache_last}
 use Rattle.ghes_throttle.proofs.Lists.{prefix_self, prefix_trans}

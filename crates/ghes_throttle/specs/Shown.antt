@@ -5,7 +5,7 @@ use mathlib.Core.Option.{some}
 use lib.ListN.{get_elem?}
 pub use Rattle.logbook.specs.Pages.{Book}
 use Rattle.ghes_throttle.specs.declared.report.Report.{Report}
-use Rattle.ghes_throttle.specs.Cache.{CacheState, put_into}
+use Rattle.ghes_throttle.specs.Cache.{put_into}
 use Rattle.ghes_throttle.specs.Reports.{IsCacheOf, with_report}
 use Rattle.ghes_throttle.specs.declared.shown.Shown.{Shown}
 use Rattle.ghes_throttle.specs.declared.shown.Line.{Line}

@@ -1,5 +1,4 @@
-use Rattle.std.proofs.Common.{◌≡◌, ◌<◌, ℕ, length, subst, sym, arith}
-use Rattle.ghes_throttle.specs.Cache.{place_for}
+use Rattle.std.proofs.Common.{arith}
 use Rattle.ghes_throttle.specs.Reports.{cache_of}
 use Rattle.ghes_throttle.proofs.Caching.{length-cache_of}
 use Rattle.ghes_throttle.proofs.Places.{place_for_below}

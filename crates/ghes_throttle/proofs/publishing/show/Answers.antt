@@ -1,6 +1,6 @@
 use Rattle.std.proofs.Common.{◌≡◌, [], ◌∷◌, ◌++◌, drop, fold, sym, ap, subst, ◌∙◌}
 use Rattle.ghes_throttle.specs.declared.shown.Shown.{Shown}
-use Rattle.ghes_throttle.specs.declared.shown.Change.TheVariants.{the_data as Change, Put}
+use Rattle.ghes_throttle.specs.declared.shown.Change.TheVariants.{Put}
 use Rattle.ghes_throttle.specs.Shown.{changed, Precedes, ShowsItsList}
 use Rattle.ghes_throttle.proofs.Ruling.{turns, line_goes, line_shows}
 use Rattle.ghes_throttle.proofs.publishing.show.Goals as goal

@@ -1,4 +1,4 @@
-use Rattle.std.proofs.Common.{◌≡◌, ◌∙◌, sym, ap, ◌+◌, length}
+use Rattle.std.proofs.Common.{◌∙◌, sym, ap}
 use Rattle.ghes_throttle.specs.Cache.{with_put}
 use Rattle.ghes_throttle.specs.Reports.{cache_of, report_of}
 use Rattle.ghes_throttle.proofs.Caching.{cache_last}
