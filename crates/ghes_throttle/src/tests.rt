@@ -1,5 +1,7 @@
 //! Puts and hits that a person worked out from the rules, and looks beside reports.
-use crate::{Cache, throttle};
+ghost use Rattle.std.specs.Prelude.{◌≡◌, ◌≤◌, ◌<◌, ◌+◌, length};
+
+use crate::{Cache, ThrottleReader, ThrottleWriter, throttle};
 use std::alloc::{AllocError, Global};
 use std::process::Abort;
 use std::sync::Wait;
@@ -135,5 +137,44 @@ fn a_reader_looks_and_learns_in_turn(rt: HostRuntime) -> Result<(), Fail> {
     writer.end(&rt);
     assert_eq!(rt; number?, 1);
     assert_eq!(rt; (none, still_none, one, other), (None, None, Some(1), None));
+    Ok(())
+}
+
+/// The number of a report. Where it was refused first, nothing may have changed, and the next try succeeds, or it is 0.
+fn reported<R: Wait>(
+    rt: &R,
+    writer: &mut ThrottleWriter,
+    reader: &mut ThrottleReader,
+    bytes: &[u8],
+) -> u64
+    requires { (length bytes.now ≤ writer.old.block_len) × (length writer.old.list < 1000) }
+    ensures { (writer.new.block_len ≡ writer.old.block_len) × (length writer.new.list ≤ length writer.old.list + 1) }
+{
+    match writer.report(rt, bytes, 0) {
+        Ok(number) => number,
+        Err(_) => {
+            let same = writer.hit(bytes, 0).is_none() && reader.look(bytes, 0).is_none();
+            match writer.report(rt, bytes, 0) {
+                Ok(number) => if same { number } else { 0 },
+                Err(_) => 0,
+            }
+        }
+    }
+}
+
+/// To be run with each allocation failing in turn.
+#[test]
+fn a_report_after_a_refused_one_succeeds(rt: HostRuntime) -> Result<(), Fail> {
+    let made = match throttle(&rt, rt.alloc(), 20, 1) {
+        Ok(made) => Ok(made),
+        Err(_) => throttle(&rt, rt.alloc(), 20, 1),
+    };
+    let (mut writer, mut readers) = made?;
+    let first = reported(&rt, &mut writer, &mut readers[0], &block(1));
+    let second = reported(&rt, &mut writer, &mut readers[0], &block(2));
+    let third = reported(&rt, &mut writer, &mut readers[0], &block(3));
+    let seen = readers[0].look(&block(2), 0);
+    writer.end(&rt);
+    assert_eq!(rt; (first, second, third, seen), (1, 2, 3, Some(2)));
     Ok(())
 }
