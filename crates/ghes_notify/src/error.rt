@@ -1,6 +1,6 @@
 //! What names a registered handler, and the refusals of a chain.
 
-/// A registered handler. It is never the number of another one.
+/// A handler of a chain. No other handler of that chain ever has it.
 #[derive(Clone, Copy, Debug, PartialEq, Eq)]
 pub struct HandlerId {
     pub(crate) number: u64,

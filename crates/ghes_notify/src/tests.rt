@@ -152,7 +152,7 @@ fn the_handler_after_the_thirty_second_comes_back(rt: HostRuntime) -> Result<(),
     let first = add(&mut chain, GO, 0);
     let mut registered = 1u8;
     let mut full = 0u8;
-    for _ in 0..32 {
+    for _ in 0..32u64 {
         match chain.register(Counter::new(GO), 0) {
             Ok(_) => registered = registered.saturating_add(1),
             Err(RegisterError::Full(back)) => full = full
