@@ -1,5 +1,6 @@
 -- The order in which handlers are called: by falling priority, equals in order of registration.
-use Rattle.std.specs.Prelude.{ℕ, ◌+◌, ◌<◌, ◌==◌, int_lt, ℤ, List, [], ◌∷◌, length, All, Option, unwrap_or, position, insert}
+use Rattle.std.specs.Prelude.{ℕ, Bool, true, not, ◌&&◌, ◌||◌, nat_lt, ◌+◌, ◌<◌, ◌==◌, int_lt, ℤ, List, [], ◌∷◌, length, All, Option, unwrap_or, position, insert}
+use Rattle.std.specs.List.{list_all}
 use Rattle.ghes_notify.specs.declared.order.Tag.{Tag}
 use Rattle.ghes_notify.specs.declared.order.Rank.{Rank}
 
@@ -32,3 +33,12 @@ AreBelow made tags = All (λ (t : Tag). t.id < made) tags
 -- the place of the handler with this number, or none (own choice)
 abbrev pub place_of : List Tag → ℕ → Option ℕ
 place_of tags number = position (λ t. t.id == number) tags
+
+-- one handler is called before another: its priority is higher, or the same and it was registered before (own choice)
+abbrev pub is_before : Rank → Rank → Bool
+is_before a b = int_lt b.tag.priority a.tag.priority || (not (int_lt a.tag.priority b.tag.priority) && nat_lt a.place b.place)
+
+-- each handler is called before all that stand behind it (own choice)
+abbrev pub is_in_order : List Rank → Bool
+is_in_order [] = true
+is_in_order (r ∷ ranks) = list_all (is_before r) ranks && is_in_order ranks

@@ -11,6 +11,7 @@ mod chain;
 mod deliver;
 mod error;
 mod handler;
+mod laws;
 mod order;
 #[cfg(test)]
 mod tests;
@@ -19,3 +20,4 @@ pub use boxed::Notifiers;
 pub use chain::NotifierChain;
 pub use error::{HandlerId, HandlerMemory, RegisterError};
 pub use handler::{Handler, Verdict};
+pub use laws::the_order_of_calls_falls;
