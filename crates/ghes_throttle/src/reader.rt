@@ -18,7 +18,8 @@ use std::sync::Wait;
 #[derive(Drop)]
 pub struct ThrottleReader {
     pub(crate) reader: Reader<Shown, Option<Shown>, Ruled>,
-    pub(crate) own: Shown,
+    // Boxed, since a look moves the reader by value.
+    pub(crate) own: Box<Shown>,
 }
 
 impl Model for ThrottleReader {
@@ -28,9 +29,9 @@ impl Model for ThrottleReader {
 
     ghost Value = { Known };
 
-    ghost view = { λ r. record { book = r.own.mark.book; list = r.own.mark.list } };
+    ghost view = { λ r. record { book = r.own.value.mark.book; list = r.own.value.mark.list } };
 
-    ghost invariant = { λ r. (view_of r.reader.place ≡ Some r.own) × ShowsItsList r.own };
+    ghost invariant = { λ r. (view_of r.reader.place ≡ Some r.own.value) × ShowsItsList r.own.value };
 }
 
 impl ThrottleReader {

@@ -86,10 +86,13 @@ impl ThrottleWriter {
         let shown = self.writer.published();
         let mut cache = Cache::new(self.alloc, shown.cache.block_len())?;
         cache.follow(&shown.cache);
-        let own = Shown {
-            cache,
-            mark: self.mark.again(),
-        };
+        let own = Box::new(
+            self.alloc,
+            Shown {
+                cache,
+                mark: self.mark.again(),
+            },
+        )?;
         let mut reader = self.writer.factory().reader()?;
         reader.learn::<Takes>(self.writer.tell::<Twice>());
         Ok(ThrottleReader { reader, own })
