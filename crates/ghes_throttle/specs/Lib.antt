@@ -1,0 +1,4 @@
+pub mod Cache
+pub mod History
+pub mod Reports
+pub mod Shown

@@ -1,0 +1,105 @@
+//! One place of the report cache.
+ghost use Rattle.std.specs.Prelude.{◌≡◌, ◌≤◌, ◌<◌, length, IfOk};
+ghost use Rattle.ghes_throttle.specs.Cache.{PlaceBuffer, empty_place, place_with, is_empty, is_over, hits};
+
+use std::alloc::{AllocError, Global};
+use std::marker::Model;
+
+/// How long a report hits, in nanoseconds.
+const WINDOW: u64 = 10_000_000_000;
+
+/// A place, with a buffer of a fixed room in bytes.
+#[derive(Drop)]
+pub(crate) struct Place {
+    full: bool,
+    bytes: Vec<u8>,
+    time: u64,
+    number: u64,
+    room: usize,
+}
+
+impl Model for Place {
+    ghost use Rattle.std.specs.Prelude.{◌≤◌, vec_len, vec_capacity};
+    ghost use Rattle.ghes_throttle.specs.Cache.{PlaceBuffer};
+
+    ghost Value = { PlaceBuffer };
+
+    ghost view = { λ p. record { held = record { full = p.full; bytes = p.bytes.items; time = p.time; number = p.number }; room = p.room } };
+
+    ghost invariant = { λ p. (vec_len p.bytes ≤ p.room) × (p.room ≤ vec_capacity p.bytes) };
+}
+
+impl Place {
+    /// An empty place.
+    pub(crate) fn new(alloc: Global, room: usize) -> Result<Place, AllocError>
+        ensures { IfOk result (λ place. place ≡ record { held = empty_place; room = room }) }
+    {
+        Ok(Place {
+            full: false,
+            bytes: Vec::with_capacity(alloc, room)?,
+            time: 0,
+            number: 0,
+            room,
+        })
+    }
+
+    pub(crate) fn time(&self) -> u64
+        ensures { result ≡ self.now.held.time }
+    {
+        self.time
+    }
+
+    pub(crate) fn number(&self) -> u64
+        ensures { result ≡ self.now.held.number }
+    {
+        self.number
+    }
+
+    pub(crate) fn is_empty(&self) -> bool
+        ensures { result ≡ is_empty self.now.held }
+    {
+        !self.full
+    }
+
+    /// Its report is of the window's length before this time, or longer.
+    pub(crate) fn is_over(&self, now: u64) -> bool
+        ensures { result ≡ is_over now self.now.held }
+    {
+        self.time <= now && now - self.time >= WINDOW
+    }
+
+    /// It has a report of these bytes, from within the window before this time.
+    ///
+    /// Bytes of another length are not looked at.
+    pub(crate) fn hits(&self, bytes: &[u8], now: u64) -> bool
+        ensures { result ≡ hits bytes.now now self.now.held }
+    {
+        self.full
+            && self.time <= now
+            && now - self.time < WINDOW
+            && self.bytes.len() == bytes.len()
+            && self.bytes.as_slice() == bytes
+    }
+
+    /// Holds a report in the place of what was there. It takes no memory.
+    pub(crate) fn set(&mut self, bytes: &[u8], time: u64, number: u64)
+        requires { length bytes.now ≤ self.old.room }
+        ensures { self.new ≡ record { held = place_with bytes.now time number; room = self.old.room } }
+    {
+        self.bytes.clear();
+        let fits = self.bytes.extend_from_slice(bytes).is_ok();
+        prove!(fits);
+        self.time = time;
+        self.number = number;
+        self.full = true;
+    }
+
+    /// Becomes equal to another place. It takes no memory.
+    pub(crate) fn follow(&mut self, other: &Place)
+        requires { other.now.room ≡ self.old.room }
+        ensures { self.new ≡ other.now }
+    {
+        self.set(&other.bytes, other.time, other.number);
+        self.full = other.full;
+    }
+}
