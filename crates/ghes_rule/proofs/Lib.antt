@@ -1,0 +1,17 @@
+pub mod Frames
+pub mod Joins
+pub mod Keeps
+pub mod Opens
+pub mod Outs
+pub mod PassKinds
+pub mod PassSteps
+pub mod PushKinds
+pub mod Puts
+pub mod Quiet
+pub mod Splits
+pub mod WorkKinds
+pub mod PanicKinds
+pub mod Gathered
+pub mod Trails
+pub mod RuleHolds
+pub mod NoSlot
