@@ -14,9 +14,8 @@ use Rattle.ghes_rule.specs.declared.views.View.TheVariants.{OfPass, OfWork}
 use Rattle.ghes_rule.specs.Moves.{pass_of, view_or, view_at, all_back, first_back, joined, without_first, let_out, outs, since_of, IsSameButPasses, Settled}
 use Rattle.ghes_rule.specs.Kept.{first_pass}
 use Rattle.ghes_rule.specs.Seen.{PassSeen, AreEmptyCells, AreLetOut, AreFirst, pass_seen}
-use Rattle.ghes_rule.proofs.Puts.{at_below, one_at}
-use Rattle.ghes_rule.proofs.Splits.{at_grown}
-use Rattle.ghes_rule.proofs.Joins.{back_all}
+use Rattle.ghes_rule.proofs.Puts.{at_below, one_at, at_grown}
+use Rattle.ghes_rule.proofs.BackLemmas.{back_all}
 use Rattle.ghes_rule.proofs.Outs.{outs_length, outs_first, outs_next, outs_at}
 
 pub at_some : {A : Type 0} → (xs : List A) (i : ℕ) → i < length xs → (x : A) × (get_elem? xs i ≡ some x)

@@ -21,15 +21,13 @@ use Rattle.ghes_rule.specs.declared.views.View.{View}
 use Rattle.ghes_rule.specs.declared.views.View.TheVariants.{OfPass, OfWork, Spent}
 use Rattle.ghes_rule.specs.Kept.{Spot, free, with_pass, waits, at_desk, busy, In, when, sum_to, count, count_in, of_pass, turn, IsBelow, Slots, InStage, PassOk, Counts, Linked, Chain, InHand, DeskOk, Knows, Seats, Held, Panic, IsKept}
 use Rattle.ghes_rule.specs.Moves.{view_or, view_at, all_back, in_hand, ended_of, Settled}
-use Rattle.ghes_rule.proofs.Puts.{sum_same, at_below, one_at, at_drop, in_at, at_in, count_none, count_once, count_passes, count_in_append, when_same, when_other}
-use Rattle.ghes_rule.proofs.Frames.{work_known}
+use Rattle.ghes_rule.proofs.Puts.{sum_same, at_below, one_at, at_drop, in_at, at_in, count_none, count_once, count_passes, count_in_append, when_same, when_other, put, put_here, put_at, put_else, put_all, put_field, tab_length, tab_at}
+use Rattle.ghes_rule.proofs.Frames.{work_known, pass_known, seats_pass, seats_work, counts_same, chain_same, chair_apart, work_apart, work_spent, panic_same}
+use Rattle.ghes_rule.proofs.Quiet.{recount, settled}
 use Rattle.atomic_table.specs.Table.{Me, Act, keeps, Allows, Splits, Joins, step}
 use Rattle.atomic_table.proofs.Lists.{at_set, set_here, set_else, set_again, at_snoc, at_longer, at_last}
 use lib.Seq.{set-get_or}
 use Rattle.ghes_rule.specs.Moves.{Sat, pass_of, work_of, first_back, joined, join_views, without_first, let_out, split_left, split_right, ended_if, tab, told_settled}
-use Rattle.ghes_rule.proofs.Puts.{put, put_here, put_at, put_else, put_all, put_field, tab_length, tab_at}
-use Rattle.ghes_rule.proofs.Frames.{pass_known, seats_pass, seats_work, counts_same, chain_same, chair_apart, work_apart, work_spent, panic_same}
-use Rattle.ghes_rule.proofs.Quiet.{recount, settled}
 use Rattle.std.proofs.Common.{replicate, slice_index_or}
 use lib.ListN.{length-replicate, length-map}
 use Rattle.atomic_table.specs.Table.{opening}

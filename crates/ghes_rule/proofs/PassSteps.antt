@@ -20,24 +20,19 @@ use Rattle.ghes_rule.specs.declared.views.View.{View}
 use Rattle.ghes_rule.specs.declared.views.View.TheVariants.{OfPass, OfWork, Spent}
 use Rattle.ghes_rule.specs.Kept.{Spot, free, with_pass, waits, at_desk, busy, In, when, sum_to, count, count_in, of_pass, turn, IsBelow, Slots, InStage, PassOk, Counts, Linked, Chain, InHand, DeskOk, Knows, Seats, Held, Panic, IsKept}
 use Rattle.ghes_rule.specs.Moves.{view_or, view_at, all_back, in_hand, ended_of, Settled}
-use Rattle.ghes_rule.proofs.Puts.{sum_same, at_below, one_at, at_drop, in_at, at_in, count_none, count_once, count_passes, count_in_append, when_same, when_other}
-use Rattle.ghes_rule.proofs.Frames.{work_known}
+use Rattle.ghes_rule.proofs.Puts.{sum_same, at_below, one_at, at_drop, in_at, at_in, count_none, count_once, count_passes, count_in_append, when_same, when_other, put, put_here, put_at, put_else, put_all, put_field, tab_length, tab_at, sum_put, sum_most, count_snoc, count_most, in_snoc, in_last, in_longer}
+use Rattle.ghes_rule.proofs.Frames.{work_known, pass_known, seats_pass, seats_work, counts_same, chain_same, chair_apart, work_apart, work_spent, panic_same, linked_same}
+use Rattle.ghes_rule.proofs.Quiet.{recount, settled, spot_code, stage_code, spots_apart, not_held, not_swapped, not_both, one_wait}
 use Rattle.atomic_table.specs.Table.{Me, Act, keeps, Allows, Splits, Joins, step}
 use Rattle.atomic_table.proofs.Lists.{at_set, set_here, set_else, set_again, at_snoc, at_longer, at_last}
 use lib.Seq.{set-get_or}
 use Rattle.ghes_rule.specs.Moves.{Sat, pass_of, work_of, first_back, joined, join_views, without_first, let_out, split_left, split_right, ended_if, tab, told_settled}
-use Rattle.ghes_rule.proofs.Puts.{put, put_here, put_at, put_else, put_all, put_field, tab_length, tab_at}
-use Rattle.ghes_rule.proofs.Frames.{pass_known, seats_pass, seats_work, counts_same, chain_same, chair_apart, work_apart, work_spent, panic_same}
-use Rattle.ghes_rule.proofs.Quiet.{recount, settled}
 use Rattle.std.proofs.Common.{◌/◌, ◌%◌, bit_or, vec_capacity, get_or-set_same, get_or-set_other}
 use Rattle.std.proofs.lemmas.Nat.{or_disjoint}
 use Rattle.atomic_table.specs.Table.{takes, gives, stepped}
 use Rattle.ghes_rule.specs.Kept.{pushed_slot}
 use Rattle.ghes_rule.specs.Kept
 use Rattle.ghes_rule.specs.Moves.{with_claim, with_found, without_claim, HasEmpty, tried, freed}
-use Rattle.ghes_rule.proofs.Puts.{sum_put, sum_most, count_snoc, count_most, in_snoc, in_last, in_longer}
-use Rattle.ghes_rule.proofs.Frames.{linked_same}
-use Rattle.ghes_rule.proofs.Quiet.{spot_code, stage_code, spots_apart, not_held, not_swapped, not_both, one_wait}
 
 abbrev Homes : Type 0
 Homes = List (maybe.Option (Option Cell))

@@ -207,3 +207,10 @@ pub length_drop : {A : Type 0} → (b : ℕ) (xs : List A) → b ≤ length xs �
 length_drop zero xs l = omega arith
 length_drop (suc b) [] l = absurd (omega arith)
 length_drop (suc b) (x ∷ xs) l = let r = length_drop b xs (omega arith) in omega arith
+
+-- what stands in a list that grew by one
+pub at_grown : {A : Type 0} → (l : List A) (a b : A) (j : ℕ) → get_elem? (l ++ a ∷ []) j ≡ some b → (get_elem? l j ≡ some b) ⊎ ((j ≡ length l) × (a ≡ b))
+at_grown [] a b zero e = inr (refl, some-injective a b e)
+at_grown [] a b (suc j) e = absurd (some-ne-none b (sym e))
+at_grown (x ∷ xs) a b zero e = inl e
+at_grown (x ∷ xs) a b (suc j) e = ⊎_elim (λ t. inl t) (λ t. inr (ap suc t.0, t.1)) (at_grown xs a b j e)

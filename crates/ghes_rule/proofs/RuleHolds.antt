@@ -20,41 +20,30 @@ use Rattle.ghes_rule.specs.declared.views.View.{View}
 use Rattle.ghes_rule.specs.declared.views.View.TheVariants.{OfPass, OfWork, Spent}
 use Rattle.ghes_rule.specs.Kept.{Spot, free, with_pass, waits, at_desk, busy, In, when, sum_to, count, count_in, of_pass, turn, IsBelow, Slots, InStage, PassOk, Counts, Linked, Chain, InHand, DeskOk, Knows, Seats, Held, Panic, IsKept}
 use Rattle.ghes_rule.specs.Moves.{view_or, view_at, all_back, in_hand, ended_of, Settled}
-use Rattle.ghes_rule.proofs.Puts.{sum_same, at_below, one_at, at_drop, in_at, at_in, count_none, count_once, count_passes, count_in_append, when_same, when_other}
-use Rattle.ghes_rule.proofs.Frames.{work_known}
+use Rattle.ghes_rule.proofs.Puts.{sum_same, at_below, one_at, at_drop, in_at, at_in, count_none, count_once, count_passes, count_in_append, when_same, when_other, put, put_here, put_at, put_else, put_all, put_field, tab_length, tab_at, sum_put, sum_most, count_snoc, count_most, in_snoc, in_last, in_longer, at_grown, sum_slots, sum_few, length_drop, sum_zero}
+use Rattle.ghes_rule.proofs.Frames.{work_known, pass_known, seats_pass, seats_work, counts_same, chain_same, chair_apart, work_apart, work_spent, panic_same, linked_same}
+use Rattle.ghes_rule.proofs.Quiet.{recount, settled, spot_code, stage_code, spots_apart, not_held, not_swapped, not_both, one_wait, waits_at, count_absent, count_present, hand_absent, hand_present}
+use Rattle.ghes_rule.proofs.PassSteps.{one_holder, slot_or}
+use Rattle.ghes_rule.proofs.Keeps.{Homes, Longer, longer_self, longer_snoc, at_keep, stage_keep, below_keep, below_zero, below_some, linked_keep, hand_keep, length_take_drop, take_next}
+use Rattle.ghes_rule.proofs.PassLemmas.{few_claims}
+use Rattle.ghes_rule.proofs.BackLemmas.{same_views, quiet_after, some_none}
 use Rattle.atomic_table.specs.Table.{Me, Act, keeps, Allows, Splits, Joins, step}
 use Rattle.atomic_table.proofs.Lists.{at_set, set_here, set_else, set_again, at_snoc, at_longer, at_last}
 use lib.Seq.{set-get_or}
 use Rattle.ghes_rule.specs.Moves.{Sat, pass_of, work_of, first_back, joined, join_views, without_first, let_out, split_left, split_right, ended_if, tab, told_settled}
-use Rattle.ghes_rule.proofs.Puts.{put, put_here, put_at, put_else, put_all, put_field, tab_length, tab_at}
-use Rattle.ghes_rule.proofs.Frames.{pass_known, seats_pass, seats_work, counts_same, chain_same, chair_apart, work_apart, work_spent, panic_same}
-use Rattle.ghes_rule.proofs.Quiet.{recount, settled}
 use Rattle.std.proofs.Common.{◌/◌, ◌%◌, bit_or, vec_capacity, get_or-set_same, get_or-set_other}
 use Rattle.std.proofs.lemmas.Nat.{or_disjoint}
 use Rattle.atomic_table.specs.Table.{takes, gives, stepped}
 use Rattle.ghes_rule.specs.Kept.{pushed_slot}
 use Rattle.ghes_rule.specs.Kept
 use Rattle.ghes_rule.specs.Moves.{with_claim, with_found, without_claim, HasEmpty, tried, freed}
-use Rattle.ghes_rule.proofs.Puts.{sum_put, sum_most, count_snoc, count_most, in_snoc, in_last, in_longer}
-use Rattle.ghes_rule.proofs.Frames.{linked_same}
-use Rattle.ghes_rule.proofs.Quiet.{spot_code, stage_code, spots_apart, not_held, not_swapped, not_both, one_wait}
 use Rattle.std.proofs.lemmas.List.{take-append-le}
-use Rattle.ghes_rule.proofs.Splits.{at_grown}
-use Rattle.ghes_rule.proofs.PassSteps.{one_holder, slot_or}
 use Rattle.ghes_rule.specs.Moves.{with_chain, with_link, with_taken, with_given, detached, walked_on, took, took_first, gave, tail_of, first_walked, hand_slot}
-use Rattle.ghes_rule.proofs.Keeps.{Homes, Longer, longer_self, longer_snoc, at_keep, stage_keep, below_keep, below_zero, below_some, linked_keep, hand_keep, length_take_drop, take_next}
-use Rattle.ghes_rule.proofs.PassKinds.{few_claims}
-use Rattle.ghes_rule.proofs.Quiet.{waits_at, count_absent, count_present}
-use Rattle.ghes_rule.proofs.Joins.{same_views, quiet_after}
 use Rattle.std.proofs.lemmas.List.{take_all}
 use Rattle.ghes_rule.specs.Moves.{AllTaken, IsOldest}
-use Rattle.ghes_rule.proofs.Puts.{sum_slots, sum_few, length_drop, at_drop}
 use Rattle.atomic_table.proofs.Lists.{drop_at}
 use Rattle.ghes_rule.specs.declared.views.PacketView.{PacketView}
 use Rattle.ghes_rule.specs.Rule.{holds, is_free, Names, LinkIs, IsChain, HasPasses, HasClaims, HasRule}
-use Rattle.ghes_rule.proofs.Puts.{sum_zero, sum_put}
-use Rattle.ghes_rule.proofs.Quiet.{hand_absent, hand_present}
-use Rattle.ghes_rule.proofs.Joins.{some_none}
 
 module _ {A : Type 0} where
   drop_nil : (m : ℕ) → drop {A = A} m [] ≡ []
@@ -173,7 +162,7 @@ module _ {room n : ℕ} {s : State (Option Cell) View} (r : IsKept room n s) whe
   one_place i l = go (r.spot i) refl
     where
       busy_one : (Q : Spot) → r.spot i ≡ Q → busy Q ≡ 1 → is_free (get_or s.words i 0) (r.age i) ≡ 0
-      busy_one Q e b = when_other (get_or s.words i 0) (2 * r.age i) (λ z. let w = Rattle.ghes_rule.proofs.PassKinds.busy_word r.k room s.words s.homes r.log r.from (r.age i) i (r.spot i) (ap busy e ∙ b) (r.slots.each i l) in omega arith)
+      busy_one Q e b = when_other (get_or s.words i 0) (2 * r.age i) (λ z. let w = Rattle.ghes_rule.proofs.PassLemmas.busy_word r.k room s.words s.homes r.log r.from (r.age i) i (r.spot i) (ap busy e ∙ b) (r.slots.each i l) in omega arith)
 
       go : (Q : Spot) → r.spot i ≡ Q → is_free (get_or s.words i 0) (r.age i) + sum_to n (λ p. holds i (r.pass p).stage) + count_in i rest_of + count_in i walked_of + count_in i head_of + in_hand i r.desk.held ≡ 1
       go free e = let at = subst (Kept.At r.k room s.words s.homes r.log r.from (r.age i) i) e (r.slots.each i l) in let a = when_same (get_or s.words i 0) (2 * r.age i) at.0 in
@@ -200,10 +189,10 @@ module _ {room n : ℕ} {s : State (Option Cell) View} (r : IsKept room n s) whe
   }
 
   busy_or : (i : ℕ) → (r.spot i ≡ free) ⊎ (busy (r.spot i) ≡ 1)
-  busy_or i = Rattle.ghes_rule.proofs.PassKinds.free_or_busy (r.spot i)
+  busy_or i = Rattle.ghes_rule.proofs.PassLemmas.free_or_busy (r.spot i)
 
   word_busy : (i : ℕ) → i < r.k → busy (r.spot i) ≡ 1 → get_or s.words i 0 ≡ 2 * r.age i + 1
-  word_busy i l b = Rattle.ghes_rule.proofs.PassKinds.busy_word r.k room s.words s.homes r.log r.from (r.age i) i (r.spot i) b (r.slots.each i l)
+  word_busy i l b = Rattle.ghes_rule.proofs.PassLemmas.busy_word r.k room s.words s.homes r.log r.from (r.age i) i (r.spot i) b (r.slots.each i l)
 
   word_free : (i : ℕ) → i < r.k → r.spot i ≡ free → get_or s.words i 0 ≡ 2 * r.age i
   word_free i l e = (subst (Kept.At r.k room s.words s.homes r.log r.from (r.age i) i) e (r.slots.each i l)).0
@@ -247,7 +236,7 @@ module _ {room n : ℕ} {s : State (Option Cell) View} (r : IsKept room n s) whe
     home = home_fits;
     few = r.counts.short;
     sum = λ i l. let a = r.counts.counted i l in let b = word_total i l in omega arith;
-    each = λ i h l low. let b = word_total i l in let c = Rattle.ghes_rule.proofs.PassKinds.free_or_busy (r.spot i) in r.counts.each i h l (⊎_elim (λ e. let z = ap busy e in omega arith) (λ e. omega arith) c);
+    each = λ i h l low. let b = word_total i l in let c = Rattle.ghes_rule.proofs.PassLemmas.free_or_busy (r.spot i) in r.counts.each i h l (⊎_elim (λ e. let z = ap busy e in omega arith) (λ e. omega arith) c);
     holding = λ p i h l e. let st = subst (InStage r.k s.words r.log r.age r.spot p) e (r.passes p l).stage in let a = word_busy i st.0 (ap busy st.1) in let b = st.2 in omega arith;
     pushed = λ e h. let t = in_pending e h in let w = waits_at r.chain t.0 e t.1 t.2 in let at = subst (Kept.At r.k room s.words s.homes r.log r.from (r.age e.slot) e.slot) w.1 (r.slots.each e.slot w.0) in
         let same = one_at r.log t.0 at.3.0 e at.3.2 t.2 in let turn_is = ap (λ (z : Pushed). z.turn) same in let b = at.3.4 in let a = at.0 in omega arith;

@@ -15,7 +15,10 @@ use Rattle.ghes_rule.specs.declared.views.Pushed.{Pushed}
 use Rattle.ghes_rule.specs.Kept.{of_pass}
 use Rattle.ghes_rule.specs.Moves.{all_back, view_at, IsOldest}
 use Rattle.ghes_rule.specs.Seen.{AllBelow, IsTrail}
-use Rattle.ghes_rule.proofs.WorkKinds.{detaches, walks, takes_first, gives_back}
+use Rattle.ghes_rule.proofs.DetachKeeps.{detaches}
+use Rattle.ghes_rule.proofs.WalkKeeps.{walks}
+use Rattle.ghes_rule.proofs.TakeKeeps.{takes_first}
+use Rattle.ghes_rule.proofs.GiveKeeps.{gives_back}
 
 module _ (room n slots k id : ℕ) (me : Sat) (w : WorkView) (same : k ≡ slots) (is : me.0 ≡ OfWork w) where
   pub detaches_at : w.walked ≡ [] → w.cursor ≡ 0 → w.held ≡ Bare → Allows (IsKept room n) slots id me (2 * k) (λ _. 0) (detached (step slots (2 * k) 0 0 none) me)

@@ -35,7 +35,7 @@ pub fn swap_in<L: Ledger>(
     requires room { pass.old.view.room ≤ packet.bytes.room }
     ensures belongs { pass.new.table ≡ pass.old.table }
     ensures pushed { pass.new.view ≡ with_push pass.old.view result.old (pushed_from pass.old.view.number claim.slot claim.turn packet) }
-    ensures swapped { (result.slot ≡ claim.slot) × (pass.new.view.stage ≡ Swapped claim.slot result.old) }
+    ensures swapped { (result.slot ≡ claim.slot) × (pass.new.view.stage ≡ Swapped result.slot result.old) }
     ensures spare { (result.spare.bytes.bytes ≡ []) × (pass.old.view.room ≤ result.spare.bytes.room) }
     ensures cost { steps.new ≡ steps.old + 2 }
 {

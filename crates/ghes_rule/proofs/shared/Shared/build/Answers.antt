@@ -6,7 +6,7 @@ use Rattle.ghes_rule.specs.Kept.{first_pass, first_passes, first_work}
 use Rattle.ghes_rule.specs.Moves.{all_back, view_at, view_or, since_of}
 use Rattle.ghes_rule.specs.Seen.{pass_seen}
 use Rattle.ghes_rule.proofs.Opens.{first_length, first_at}
-use Rattle.ghes_rule.proofs.Joins.{back_all}
+use Rattle.ghes_rule.proofs.BackLemmas.{back_all}
 use Rattle.ghes_rule.proofs.shared.Shared.build.Goals as goal
 
 pub let_all_go-passes-requires-clause-all : goal.let_all_go-passes-requires-clause-all

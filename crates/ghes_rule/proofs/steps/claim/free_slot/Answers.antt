@@ -4,7 +4,7 @@ use Rattle.ghes_rule.specs.declared.views.PassView.{PassView}
 use Rattle.ghes_rule.specs.declared.views.WorkView.{WorkView}
 use Rattle.ghes_rule.specs.Seen.{PassSeen, WorkSeen, Carries}
 use Rattle.ghes_rule.specs.Moves.{pass_of, work_of, carried_of}
-use Rattle.ghes_rule.proofs.PassKinds.{frees}
+use Rattle.ghes_rule.proofs.ReleaseKeeps.{frees}
 use Rattle.ghes_rule.proofs.steps.claim.free_slot.Goals as goal
 
 pub store-requires : goal.store-requires

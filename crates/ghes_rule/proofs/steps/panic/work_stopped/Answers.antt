@@ -4,7 +4,7 @@ use Rattle.ghes_rule.specs.declared.views.PassView.{PassView}
 use Rattle.ghes_rule.specs.declared.views.WorkView.{WorkView}
 use Rattle.ghes_rule.specs.Seen.{PassSeen, WorkSeen, Carries}
 use Rattle.ghes_rule.specs.Moves.{pass_of, work_of, carried_of}
-use Rattle.ghes_rule.proofs.PanicKinds.{overlooks}
+use Rattle.ghes_rule.proofs.LookKeeps.{overlooks}
 use Rattle.ghes_rule.proofs.steps.panic.work_stopped.Goals as goal
 
 pub load-word-requires : goal.load-word-requires

@@ -8,7 +8,7 @@ use Rattle.atomic_table.specs.Table.{rest}
 use Rattle.ghes_rule.specs.declared.views.Cell.{Cell}
 use Rattle.ghes_rule.specs.declared.views.Stage.TheVariants.{Holding}
 use Rattle.ghes_rule.specs.declared.views.View.TheVariants.{OfPass}
-use Rattle.ghes_rule.proofs.PushKinds.{hangs}
+use Rattle.ghes_rule.proofs.HangKeeps.{hangs}
 use Rattle.ghes_rule.proofs.steps.push.swap_in.Goals as goal
 
 pub exchange-requires : goal.exchange-requires

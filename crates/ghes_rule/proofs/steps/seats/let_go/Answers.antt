@@ -5,7 +5,7 @@ use Rattle.ghes_rule.specs.declared.views.WorkView.{WorkView}
 use Rattle.ghes_rule.specs.Seen.{PassSeen, WorkSeen, Carries}
 use Rattle.ghes_rule.specs.Moves.{pass_of, work_of, carried_of}
 use Rattle.ghes_rule.specs.Moves.{first_back, let_out}
-use Rattle.ghes_rule.proofs.Splits.{splits}
+use Rattle.ghes_rule.proofs.SplitKeeps.{splits}
 use Rattle.ghes_rule.proofs.steps.seats.let_go.Goals as goal
 
 pub split_seat-seat-requires : goal.split_seat-seat-requires

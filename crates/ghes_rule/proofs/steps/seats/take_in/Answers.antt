@@ -4,7 +4,7 @@ use Rattle.ghes_rule.specs.declared.views.PassView.{PassView}
 use Rattle.ghes_rule.specs.declared.views.WorkView.{WorkView}
 use Rattle.ghes_rule.specs.Seen.{PassSeen, WorkSeen, Carries}
 use Rattle.ghes_rule.specs.Moves.{pass_of, work_of, carried_of}
-use Rattle.ghes_rule.proofs.Joins.{joins}
+use Rattle.ghes_rule.proofs.JoinKeeps.{joins}
 use Rattle.ghes_rule.proofs.steps.seats.take_in.Goals as goal
 
 pub join_seat-requires : goal.join_seat-requires

@@ -1,4 +1,4 @@
--- The join of a pass, the split into one, and the load that tells what is settled.
+-- A pass that holds nothing ends.
 use Rattle.std.proofs.Common.{◌≡◌, ◌≢◌, ◌⊎◌, ℕ, zero, suc, ◌+◌, ◌-◌, ◌*◌, ◌<◌, ◌≤◌, eqb, Bool, true, false, List, [], ◌∷◌, ◌++◌, length, map, get_or, set, sym, refl, ap, ◌∙◌, subst, arith, inl, inr, ⊎_elim, Option, Some, None, length-set, length-append, take, drop}
 use mathlib.Core.Logic.{dite}
 use mathlib.Core.Option.{some, none, some-injective, some-ne-none}
@@ -20,89 +20,14 @@ use Rattle.ghes_rule.specs.declared.views.View.{View}
 use Rattle.ghes_rule.specs.declared.views.View.TheVariants.{OfPass, OfWork, Spent}
 use Rattle.ghes_rule.specs.Kept.{Spot, free, with_pass, waits, at_desk, busy, In, when, sum_to, count, count_in, of_pass, turn, IsBelow, Slots, InStage, PassOk, Counts, Linked, Chain, InHand, DeskOk, Knows, Seats, Held, Panic, IsKept}
 use Rattle.ghes_rule.specs.Moves.{view_or, view_at, all_back, in_hand, ended_of, Settled}
-use Rattle.ghes_rule.proofs.Puts.{sum_same, at_below, one_at, at_drop, in_at, at_in, count_none, count_once, count_passes, count_in_append, when_same, when_other}
-use Rattle.ghes_rule.proofs.Frames.{work_known}
 use Rattle.atomic_table.specs.Table.{Me, Act, keeps, Allows, Splits, Joins, step}
 use Rattle.atomic_table.proofs.Lists.{at_set, set_here, set_else, set_again, at_snoc, at_longer, at_last}
 use lib.Seq.{set-get_or}
 use Rattle.ghes_rule.specs.Moves.{Sat, pass_of, work_of, first_back, joined, join_views, without_first, let_out, split_left, split_right, ended_if, tab, Quietly, told_settled}
-use Rattle.ghes_rule.proofs.Puts.{put, put_here, put_at, put_else, put_all, put_field, tab_length, tab_at}
-use Rattle.ghes_rule.proofs.Frames.{pass_known, seats_pass, seats_work, counts_same, chain_same, chair_apart, work_apart, work_spent, panic_same}
-use Rattle.ghes_rule.proofs.Quiet.{recount, settled}
-
-pub all_back_at : (ps : List (Option PassView)) → all_back ps ≡ true → (p : ℕ) → p < length ps → get_elem? ps p ≡ some (Some (view_at ps p))
-all_back_at [] h p l = absurd (omega arith)
-all_back_at (None ∷ ps) h p l = absurd (false_true h)
-  where
-    code : Bool → ℕ
-    code false = 0
-    code true = 1
-
-    false_true : false ≡ true → ⊥
-    false_true e = let q : code false ≡ code true = ap code e in absurd (omega arith)
-all_back_at (Some v ∷ ps) h zero l = refl
-all_back_at (Some v ∷ ps) h (suc p) l = all_back_at ps h p (omega arith)
-
-pub back_all : (ps : List (Option PassView)) → ((p : ℕ) → p < length ps → (v : PassView) × (get_elem? ps p ≡ some (Some v))) → all_back ps ≡ true
-back_all [] h = refl
-back_all (None ∷ ps) h = absurd (apart (h 0 (omega arith)))
-  where
-    code : maybe.Option (Option PassView) → ℕ
-    code none = 0
-    code (some None) = 1
-    code (some (Some v)) = 2
-
-    apart : (v : PassView) × (some None ≡ some (Some v)) → ⊥
-    apart t = let q : code (some None) ≡ code (some (Some t.0)) = ap code t.1 in absurd (omega arith)
-back_all (Some v ∷ ps) h = back_all ps (λ p l. h (suc p) (omega arith))
-
-pub some_none : (v : PassView) → some None ≡ some (Some v) → ⊥
-some_none v e = let q : code (some None) ≡ code (some (Some v)) = ap code e in absurd (omega arith)
-  where
-    code : maybe.Option (Option PassView) → ℕ
-    code none = 0
-    code (some None) = 1
-    code (some (Some v)) = 2
-
-pub first_back_at : (ps : List (Option PassView)) → first_back ps < length ps → get_elem? ps (first_back ps) ≡ some (Some (view_at ps (first_back ps)))
-first_back_at [] l = absurd (omega arith)
-first_back_at (None ∷ ps) l = first_back_at ps (omega arith)
-first_back_at (Some v ∷ ps) l = refl
-
--- a view that stands at the end, over a change before it
-module _ {room n : ℕ} {s : State (Option Cell) View} (r : IsKept room n s) where
-  numbers : (q : ℕ) → q < n → (r.pass q).number ≡ q
-  numbers q l = (r.passes q l).number
-
-  ended_seat : (p : ℕ) (v : PassView) → p < n → get_elem? r.desk.passes p ≡ some (Some v) → r.seat p ≡ 0
-  ended_seat p v l at = dite (ℕ_discrete (r.seat p) 0) (λ z. z) (λ ne. absurd (some_none v (sym (r.seats.out p l (omega arith)) ∙ at)))
-
-  pub same_views : all_back r.desk.passes ≡ true → (p : ℕ) → p < n → (view_at r.desk.passes p ≡ r.pass p) × ((r.pass p).stage ≡ Idle) × (r.seat p ≡ 0)
-  same_views h p l = let many = r.seats.as_many in let at = all_back_at r.desk.passes h p (omega arith) in let z = ended_seat p (view_at r.desk.passes p) l at in let e = r.seats.ended p l z in
-      (ap view_or e.0, e.1, z)
-
-  pub settled_now : all_back r.desk.passes ≡ true → Settled r.desk
-  settled_now h = settled r r.desk.passes r.seats.as_many (λ p l. (same_views h p l).0) (λ p l. (same_views h p l).1) (r.work.all_ended (λ p l. (same_views h p l).2)) refl
-
-  -- what the decoder knows of a quiet moment, if it is one
-  pub quietly : (id : ℕ) (d : View) → get_elem? s.views id ≡ some d → Quietly d
-  quietly id d at w e h = let known = r.seats.each id (OfWork w) (at ∙ ap some e) in subst Settled (sym known.1) (settled_now (subst (λ (z : WorkView). all_back z.passes ≡ true) known.1 h))
-
--- the same after a step of the decoder
-pub quiet_after : {room n : ℕ} (words : List ℕ) (homes : List (maybe.Option (Option Cell))) (views : List View) (id : ℕ) (old d : View) → get_elem? views id ≡ some old
-    → IsKept room n record { words = words; homes = homes; views = set views id d } → Quietly d
-quiet_after words homes views id old d at r = quietly r id d (set_here views id d (at_below views id old at))
-
--- the decoder learns what is settled by a load
-pub tells_settled : (room n slots id i : ℕ) (me : Sat) (w : WorkView) → me.0 ≡ OfWork w → Allows (IsKept room n) slots id me i (λ x. x) (told_settled (step slots i 0 0 none) me)
-tells_settled room n slots id i me w is s r deep at _ =
-    let same : State (Option Cell) View = s in (
-      me.0,
-      keeps,
-      tt,
-      subst (λ (z : List ℕ × List View). IsKept room n record { words = z.0; homes = s.homes; views = z.1 }) (λ j. (sym (set-get_or s.words i 0) j, sym (set_again s.views id me.0 at) j)) r,
-      (refl, quietly r id me.0 at),
-    )
+use Rattle.ghes_rule.proofs.Puts.{at_below, one_at, put, put_at, put_else, tab_length, tab_at}
+use Rattle.ghes_rule.proofs.Frames.{chair_apart, panic_same}
+use Rattle.ghes_rule.proofs.Quiet.{recount}
+use Rattle.ghes_rule.proofs.BackLemmas.{all_back_at, back_all, some_none, numbers}
 
 -- a pass that holds nothing ends
 pub joins : (room n id : ℕ) (d : View) (w : WorkView) (other : ℕ) (e : View) (v : PassView) → d ≡ OfWork w → e ≡ OfPass v → v.stage ≡ Idle

@@ -1,4 +1,4 @@
--- k1 and k2: a pass tries a slot, and gives its claim up.
+-- A pass tries a slot.
 use Rattle.std.proofs.Common.{◌≡◌, ◌≢◌, ◌⊎◌, ℕ, zero, suc, ◌+◌, ◌-◌, ◌*◌, ◌<◌, ◌≤◌, eqb, Bool, true, false, List, [], ◌∷◌, ◌++◌, length, map, get_or, set, sym, refl, ap, ◌∙◌, subst, arith, inl, inr, ⊎_elim, Option, Some, None, length-set, length-append, take, drop}
 use mathlib.Core.Logic.{dite}
 use mathlib.Core.Option.{some, none, some-injective, some-ne-none}
@@ -20,76 +20,26 @@ use Rattle.ghes_rule.specs.declared.views.View.{View}
 use Rattle.ghes_rule.specs.declared.views.View.TheVariants.{OfPass, OfWork, Spent}
 use Rattle.ghes_rule.specs.Kept.{Spot, free, with_pass, waits, at_desk, busy, In, when, sum_to, count, count_in, of_pass, turn, IsBelow, Slots, InStage, PassOk, Counts, Linked, Chain, InHand, DeskOk, Knows, Seats, Held, Panic, IsKept}
 use Rattle.ghes_rule.specs.Moves.{view_or, view_at, all_back, in_hand, ended_of, Settled}
-use Rattle.ghes_rule.proofs.Puts.{sum_same, at_below, one_at, at_drop, in_at, at_in, count_none, count_once, count_passes, count_in_append, when_same, when_other}
-use Rattle.ghes_rule.proofs.Frames.{work_known}
 use Rattle.atomic_table.specs.Table.{Me, Act, keeps, Allows, Splits, Joins, step}
 use Rattle.atomic_table.proofs.Lists.{at_set, set_here, set_else, set_again, at_snoc, at_longer, at_last}
 use lib.Seq.{set-get_or}
 use Rattle.ghes_rule.specs.Moves.{Sat, pass_of, work_of, first_back, joined, join_views, without_first, let_out, split_left, split_right, ended_if, tab, told_settled}
-use Rattle.ghes_rule.proofs.Puts.{put, put_here, put_at, put_else, put_all, put_field, tab_length, tab_at}
-use Rattle.ghes_rule.proofs.Frames.{pass_known, seats_pass, seats_work, counts_same, chain_same, chair_apart, work_apart, work_spent, panic_same}
-use Rattle.ghes_rule.proofs.Quiet.{recount, settled}
 use Rattle.std.proofs.Common.{◌/◌, ◌%◌, bit_or, vec_capacity, get_or-set_same, get_or-set_other}
 use Rattle.std.proofs.lemmas.Nat.{or_disjoint}
 use Rattle.atomic_table.specs.Table.{takes, gives, stepped}
 use Rattle.ghes_rule.specs.Kept.{pushed_slot}
 use Rattle.ghes_rule.specs.Kept
 use Rattle.ghes_rule.specs.Moves.{with_claim, with_found, without_claim, HasEmpty, tried, freed}
-use Rattle.ghes_rule.proofs.Puts.{sum_put, sum_most, count_snoc, count_most, in_snoc, in_last, in_longer}
-use Rattle.ghes_rule.proofs.Frames.{linked_same}
-use Rattle.ghes_rule.proofs.Quiet.{spot_code, stage_code, spots_apart, not_held, not_swapped, not_both, one_wait}
 use Rattle.std.proofs.lemmas.Nat.{and_mask}
 use Rattle.std.specs.Int.Bits.{or_add_and}
-use Rattle.ghes_rule.proofs.PassSteps.{pass_moves, one_holder, slot_or}
 use Rattle.std.proofs.Common.{◌^◌}
-
-pub or_one : (x : ℕ) → bit_or x 1 ≡ x + 1 - x % 2
-or_one x = let a = or_add_and x 1 in let b = and_mask x 1 in omega arith
-
-abbrev pub idle_stage : Stage
-idle_stage = Idle
+use Rattle.ghes_rule.proofs.Puts.{sum_same, when_same, when_other, put, put_here, put_at, put_else, put_all, put_field, sum_put, count_snoc, in_snoc, in_last, in_longer}
+use Rattle.ghes_rule.proofs.Frames.{pass_known, panic_same}
+use Rattle.ghes_rule.proofs.Quiet.{spot_code, spots_apart, not_held, not_swapped}
+use Rattle.ghes_rule.proofs.PassSteps.{pass_moves, one_holder}
+use Rattle.ghes_rule.proofs.PassLemmas.{or_one, few_claims, pass_looks, free_or_busy, busy_word}
 
 module _ {room n : ℕ} {s : State (Option Cell) View} (r : IsKept room n s) where
-  pub few_claims : (i : ℕ) → i < r.k → r.age i + busy (r.spot i) ≤ 68719476736
-  few_claims i l = let a = r.counts.counted i l in let b = sum_most n 4294967296 (λ p. count i (r.pass p).claims) (λ p m. let x = count_most i (r.pass p).claims in let y = r.counts.short p m in omega arith) in let c = r.counts.few in omega arith
-
-  -- the pass of the seat id changes what it found and its steps
-  pub pass_looks : (id i : ℕ) (v v' : PassView) → get_elem? s.views id ≡ some (OfPass v) → v'.number ≡ v.number → v'.room ≡ v.room → v'.mine ≡ v.mine → v'.since ≡ v.since → v'.stage ≡ v.stage
-      → Counts r.k n (λ j. r.age j + busy (r.spot j)) (put r.pass v.number v') → Panic r.k n s.words (put r.pass v.number v') r.desk
-      → IsKept room n record { words = set s.words i (get_or s.words i 0); homes = s.homes; views = set s.views id (OfPass v') }
-  pass_looks id i v v' at num rm mn sn st counts panic =
-      let known = pass_known r.seats id v at in let p : ℕ = v.number in let l : p < n = known.0 in let is : r.pass p ≡ v = known.2 in let ok = r.passes p l in
-      let stage_is : (q : ℕ) → (put r.pass p v' q).stage ≡ (r.pass q).stage = put_field (λ (z : PassView). z.stage) r.pass p v' (st ∙ ap (λ (z : PassView). z.stage) (sym is)) in
-      subst (λ (ws : List ℕ). IsKept room n record { words = ws; homes = s.homes; views = set s.views id (OfPass v') }) (sym (set-get_or s.words i 0)) record {
-        k = r.k;
-        spot = r.spot;
-        age = r.age;
-        pass = put r.pass p v';
-        seat = r.seat;
-        desk = r.desk;
-        chair = r.chair;
-        log = r.log;
-        from = r.from;
-        walk = r.walk;
-        top = r.top;
-        slots = r.slots;
-        passes = λ q m. put_all (λ q z. PassOk r.k s.words r.log r.age r.spot q room z) r.pass p v' q
-            (λ e. subst (λ q. PassOk r.k s.words r.log r.age r.spot q room v') (sym e) record {
-              number = num;
-              room_is = rm ∙ (ap (λ (z : PassView). z.room) (sym is) ∙ ok.room_is);
-              stage = subst (InStage r.k s.words r.log r.age r.spot p) (ap (λ (z : PassView). z.stage) is ∙ sym st) ok.stage;
-              mine = mn ∙ (ap (λ (z : PassView). z.mine) (sym is) ∙ ok.mine);
-              since = λ j b. let a = ok.since j b in let same : get_or v'.since j 0 ≡ get_or (r.pass p).since j 0 = ap (λ zs. get_or zs j 0) (sn ∙ ap (λ (z : PassView). z.since) (sym is)) in omega arith;
-            })
-            (λ _. r.passes q m);
-        held = λ j q m e. stage_is q ∙ r.held j q m e;
-        counts = counts;
-        chain = chain_same stage_is r.chain;
-        work = r.work;
-        seats = seats_pass r.seats id v v' (λ q m. (r.passes q m).number) at num;
-        panic = panic;
-      }
-
   counts_found : (p i g : ℕ) (v : PassView) → p < n → i < r.k → r.pass p ≡ v → g < r.age i + busy (r.spot i) → Counts r.k n (λ j. r.age j + busy (r.spot j)) (put r.pass p (with_found v i g))
   counts_found p i g v l inside is low = let v' : PassView = with_found v i g in
       let same : (q : ℕ) → (put r.pass p v' q).claims ≡ (r.pass q).claims = put_field (λ (z : PassView). z.claims) r.pass p v' (ap (λ (z : PassView). z.claims) (sym is)) in
@@ -145,18 +95,6 @@ module _ {room n : ℕ} {s : State (Option Cell) View} (r : IsKept room n s) whe
         short = λ q m. put_all (λ q (z : PassView). length z.claims ≤ 4294967296) r.pass p v' q (λ _. let a = length-append cs (turn i g ∷ []) in omega arith) (λ _. r.counts.short q m);
       }
 
-pub free_or_busy : (Q : Spot) → (Q ≡ free) ⊎ (busy Q ≡ 1)
-free_or_busy free = inl refl
-free_or_busy (with_pass p) = inr refl
-free_or_busy (waits t) = inr refl
-free_or_busy at_desk = inr refl
-
-pub busy_word : (k room : ℕ) (words : List ℕ) (homes : List (maybe.Option (Option Cell))) (log : List Pushed) (from age i : ℕ) (Q : Spot) → busy Q ≡ 1 → Kept.At k room words homes log from age i Q → get_or words i 0 ≡ 2 * age + 1
-busy_word k room words homes log from age i free e a = absurd (omega arith)
-busy_word k room words homes log from age i (with_pass p) e a = a.0
-busy_word k room words homes log from age i (waits t) e a = a.0
-busy_word k room words homes log from age i at_desk e a = a.0
-
 pub tries : (room n slots id : ℕ) (me : Sat) (v : PassView) (i : ℕ) → me.0 ≡ OfPass v → me.1 ≡ [] → v.stage ≡ Idle → length v.claims < 4294967296 → i < slots
     → Allows (IsKept room n) slots id me i (λ x. bit_or x 1) (tried (step slots i 1 0 none) me)
 tries room n slots id me v i is bare idle short near s r deep at _ =
@@ -190,30 +128,3 @@ tries room n slots id me v i is bare idle short near s r deep at _ =
       (omega arith, (λ even. absurd (omega arith)), λ _. (ap (λ z. (OfPass (with_found z i g), me.1)) v_of, let a = (r.passes p l).since i inside in let b = ap (λ (z : PassView). get_or z.since i 0) (pass_is ∙ v_of) in omega arith)),
     ))
     (free_or_busy (r.spot i))
-
-pub frees : (room n slots id : ℕ) (me : Sat) (v : PassView) (i g : ℕ) → me.0 ≡ OfPass v → HasEmpty v.room i me.1 → v.stage ≡ Holding i g
-    → Allows (IsKept room n) slots id me i (λ _. 2 * (g + 1)) (λ _. freed (step slots i (2 * (g + 1)) 0 none) me (2 * (g + 1)))
-frees room n slots id me v i g is has holds s r deep at _ =
-    let at' : get_elem? s.views id ≡ some (OfPass v) = at ∙ ap some is in let known = pass_known r.seats id v at' in let p : ℕ = v.number in let l : p < n = known.0 in let pass_is : r.pass p ≡ v = known.2 in
-    let staged = subst (InStage r.k s.words r.log r.age r.spot p) (ap (λ (z : PassView). z.stage) pass_is ∙ holds) (r.passes p l).stage in
-    let inside : i < r.k = staged.0 in let was : r.spot i ≡ with_pass p = staged.1 in let age_is : r.age i ≡ g = staged.2 in let place = subst (Kept.At r.k room s.words s.homes r.log r.from (r.age i) i) was (r.slots.each i inside) in
-    let x : ℕ = 2 * (g + 1) in let c : Cell = has.0 in let v' : PassView = without_claim v in
-    let rm : v.room ≡ room = ap (λ (z : PassView). z.room) (sym pass_is) ∙ (r.passes p l).room_is in
-    let v_of : v ≡ pass_of me.0 = ap pass_of (sym is) in (
-      OfPass v',
-      gives,
-      tt,
-      subst (λ (cs : List (ℕ × Option Cell)). IsKept room n (stepped s i x id cs (OfPass v') gives)) (sym has.1)
-          (pass_moves r id v v' i x (g + 1) (set s.homes i (some (Some c))) free at' inside refl refl refl refl (refl, refl) (let q = ap spot_code was in omega arith) (omega arith) (omega arith) (length-set s.homes i (some (Some c))) (λ j ne. set_else s.homes i j (some (Some c)) ne)
-          (get_or-set_same s.words i x 0 (let wd = r.slots.wide in omega arith), get_or-set_other s.words i (r.k + i) x 0 (λ e. omega arith) ∙ place.1, (c, set_here s.homes i (some (Some c)) (let dp = r.slots.deep in omega arith), has.2, subst (λ z. z ≤ c.packet.bytes.room) rm has.3))
-          tt
-          (λ q ne e. ne (sym (one_holder p q (sym was ∙ e))))
-          (λ q e. absurd (spots_apart free (with_pass q) (λ h. omega arith) e))
-          (λ j h ne e. ne (sym (ap slot_or (sym holds ∙ e)))) (λ j old e. not_both v.stage i g j old holds e)
-          (counts_same {total = λ j. r.age j + busy (r.spot j)} {total' = λ j. put r.age i (g + 1) j + busy (put r.spot i free j)}
-          (λ j m. dite (ℕ_discrete j i)
-          (λ e. (λ z. put_at r.age i (g + 1) j e z + busy (put_at r.spot i free j e z)) ∙ (let a = ap busy was in let b = ap (λ z. r.age z + busy (r.spot z)) e in let h : g + 1 + busy free ≡ r.age j + busy (r.spot j) = omega arith in h))
-          (λ ne. (λ z. put_else r.age i (g + 1) j ne z + busy (put_else r.spot i free j ne z))))
-          (put_field (λ (z : PassView). z.claims) r.pass p v' (ap (λ (z : PassView). z.claims) (sym pass_is))) (put_field (λ (z : PassView). z.found) r.pass p v' (ap (λ (z : PassView). z.found) (sym pass_is))) r.counts)),
-      (λ z. (OfPass (without_claim (v_of z)), Rattle.atomic_table.specs.Table.rest (has.1 z))),
-    )
