@@ -1,1 +1,2 @@
 pub mod FindsLemmas
+pub mod Popped
