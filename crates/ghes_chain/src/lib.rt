@@ -9,6 +9,8 @@
 mod gathered;
 mod pushing;
 mod taking;
+#[cfg(test)]
+mod tests;
 
 pub use gathered::{Gathered, gather};
 pub use ghes_rule::Held;
