@@ -1,0 +1,3 @@
+pub mod Gather
+pub mod Push
+pub mod Take

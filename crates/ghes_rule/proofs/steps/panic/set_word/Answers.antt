@@ -1,0 +1,12 @@
+use Rattle.std.proofs.Common.{rules, arith, ◌≡◌, ◌≤◌, ◌<◌, ◌+◌, ◌*◌, ◌^◌, [], ◌∷◌, ◌++◌, ℕ, List, Option, Some, None, length, true, refl, sym, ap, ◌∙◌, subst}
+use Rattle.atomic_table.specs.Seated.{TableId}
+use Rattle.ghes_rule.specs.declared.views.PassView.{PassView}
+use Rattle.ghes_rule.specs.declared.views.WorkView.{WorkView}
+use Rattle.ghes_rule.specs.Seen.{PassSeen, WorkSeen, Carries}
+use Rattle.ghes_rule.specs.Moves.{pass_of, work_of, carried_of}
+use Rattle.ghes_rule.proofs.StopKeeps.{stops}
+use Rattle.ghes_rule.proofs.steps.panic.set_word.Goals as goal
+
+pub swap-requires : goal.swap-requires
+swap-requires g c = let here = c.shared.view_is in let wide = c.shared.invariant.words in
+    (ap (λ (z : PassSeen). z.table) c.pass.view_is ∙ (c.requires.belongs ∙ sym here), omega arith, stops _ _ _ _ _ _ _ (sym c.shared.invariant.homes) c.pass.invariant.is)
