@@ -13,7 +13,7 @@ use Rattle.ghes_call.specs.declared.call.Outcome.{Outcome}
 use Rattle.ghes_call.specs.declared.call.Outcome.TheVariants.{Nothing, Queued, Malformed, Duplicate, Fatal, NoSlot, Fault, Stopped}
 use Rattle.ghes_ledger.specs.declared.ledger.Report.{Report}
 use Rattle.ghes_ledger.specs.History.{Executed, calls_in, taken_in, clock_after}
-use Rattle.ghes_ledger.specs.Image.{image_of, image_reason, is_fatal}
+use Rattle.cper_block.specs.Image.{image_of, image_reason, is_fatal}
 use Rattle.ghes_ledger.specs.Lawful.{IsAsked, FitsBlock, FitsSlots, FitsStop, FitsHit, FitsLook, Looks, LooksInLine, IsLawfulLine}
 use Rattle.ghes_ledger.specs.Names.{queued_names, fatal_names}
 use Rattle.ghes_ledger.specs.Outcomes.{number_of, pending_number, fatal_number, acknowledges, is_fault, is_failed}

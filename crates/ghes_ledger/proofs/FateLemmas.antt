@@ -1,11 +1,12 @@
 -- The fates of single blocks in a lawful ledger.
 use Rattle.std.proofs.Common.{◌≡◌, ◌≤◌, ◌<◌, ℕ, zero, suc, ◌+◌, ◌-◌, Bool, true, false, cond, eqb, ◌&&◌, List, [], ◌∷◌, ◌++◌, map, length, refl, sym, ap, subst, ◌∙◌, arith, append_assoc, Some, add-zero}
-use Rattle.std.specs.Prelude.{slice_get, filter}
+use Rattle.std.specs.Prelude.{slice_get, filter, IsPermutation}
 use Rattle.std.specs.List.{flat_map, range_with_len, AllByRecursion}
 use Rattle.std.proofs.lemmas.Bool.{eqb-true, eq-eqb, ne_eqb}
 use Rattle.std.proofs.lemmas.List.{length-append, map-append}
 use Rattle.std.proofs.lemmas.List.Concat.{flat_map-append}
 use Rattle.std.proofs.lemmas.List.Elements.{filter-append}
+use Rattle.std.proofs.lemmas.List.Sorted.{IsPermutation-refl}
 use Rattle.ghes_call.specs.declared.call.Call.{Call}
 use Rattle.ghes_call.specs.declared.call.Outcome.{Outcome}
 use Rattle.ghes_call.specs.declared.call.Outcome.TheVariants.{Nothing, Queued, Malformed, Duplicate, Fatal, NoSlot, Fault, Stopped}
@@ -13,9 +14,9 @@ use Rattle.ghes_call.specs.Packet.{PacketSeen}
 use Rattle.ghes_ledger.specs.declared.ledger.PanicEntry.{PanicEntry}
 use Rattle.ghes_ledger.specs.declared.ledger.Taken.{Taken}
 use Rattle.ghes_ledger.specs.declared.ledger.Taken.TheVariants.{Delivered, Dropped}
-use Rattle.ghes_ledger.specs.Fates.{duplicate_fate, call_fate, taken_fate, panic_fate, fates_of, bytes_if, entries_of}
+use Rattle.ghes_ledger.specs.Fates.{duplicate_fate, call_fate, taken_fate, panic_fate, fates_of, bytes_if, entries_of, HasOneFateEach}
 use Rattle.ghes_ledger.specs.History.{Act, Executed, calls_in, taken_in, on_source, kept_calls, Each, EachCall}
-use Rattle.ghes_ledger.specs.Image.{image_of}
+use Rattle.cper_block.specs.Image.{image_of}
 use Rattle.ghes_ledger.specs.Kept.{Kept}
 use Rattle.ghes_ledger.specs.Lawful.{IsImageIn, IsLawfulCall, IsLawfulLine, IsLawful}
 use Rattle.ghes_ledger.specs.Names.{packet_of, panic_packet, name_of, queued_names, fatal_names, taken_names, panic_names, waiting, fatals, served_by}
@@ -374,3 +375,17 @@ acknowledged_made plan lines kept history l s =
     let P : List ℕ → Type 0 = λ xs. AllByRecursion (λ number. number ≤ length (queue s history)) xs in
     let all : AllByRecursion (λ number. number ≤ length (queue s history)) (range_with_len 1 a) = subst P (l.numbers s) (numbers_made plan s history l.each_line) in
     omega (arith, same, counted_from 0 a (length (queue s history)) all (omega arith))
+
+numbers_are : (plan : Plan) (lines : List Act) (kept : Kept) (history : List Executed) → IsLawful plan lines kept history → (s : ℕ) → numbers_of s kept.calls ≡ range_with_len 1 (acknowledged s kept.calls)
+numbers_are plan lines kept history l s =
+    let same : numbers_of s kept.calls ≡ numbers_of s (calls_in history) = acknowledged_is plan lines kept history l s in
+    same ∙ l.numbers s ∙ ap (λ xs. range_with_len 1 (length xs)) (sym same)
+
+-- each acknowledged block of a source has one fate, and no other block has one
+pub one_fate_each : (plan : Plan) (lines : List Act) (kept : Kept) (history : List Executed) → IsLawful plan lines kept history → (s : ℕ) → HasOneFateEach s kept
+one_fate_each plan lines kept history l s = record {
+  numbers = subst (λ (xs : List ℕ). IsPermutation (numbers_of s kept.calls) xs) (numbers_are plan lines kept history l s) (IsPermutation-refl (numbers_of s kept.calls));
+  one = one_of_acknowledged plan lines kept history l s;
+  none = none_of_others plan lines kept history l s;
+  not_zero = none_of_zero plan lines kept history l s;
+}

@@ -5,7 +5,7 @@ use Rattle.std.proofs.lemmas.Bool.{leb-true, ltb-true}
 use Rattle.std.proofs.lemmas.List.{length-append}
 use Rattle.std.proofs.lemmas.Slice.Eq.{bytes_eq-Decides}
 use Rattle.ghes_ledger.specs.declared.ledger.Report.{Report}
-use Rattle.ghes_ledger.specs.Reports.{window, Place, place_hits, place_for, hit_in, cache_after, hit}
+use Rattle.ghes_ledger.specs.Reports.{window, IsFound, Place, place_hits, place_for, hit_in, cache_after, hit}
 
 -- a place has a report of this list
 record IsPlaceOf (reports : List Report) (place : Place) : Type 0 where
@@ -47,15 +47,6 @@ cache_is all done (report ∷ reports) n places e count of =
     let size : n + 1 ≡ length (done ++ report ∷ []) + 1 = omega (arith, count, length-append done (report ∷ [])) in
     cache_is all (done ++ report ∷ []) reports (n + 1) (set places (place_for report.time places) (Some place))
     (e ∙ sym (append_assoc done (report ∷ []) reports)) size (set_place all places (place_for report.time places) (Some place) of here)
-
--- what a look found
-pub record IsFound (reports : List Report) (looked : List ℕ) (now number : ℕ) : Type 0 where
-  pub report : Report
-  pub at : slice_get reports (number - 1) ≡ Some report
-  pub first : 1 ≤ number
-  pub bytes : report.bytes ≡ looked
-  pub past : report.time ≤ now
-  pub recent : now - report.time < window
 
 and_left : (x y : Bool) → (x && y) ≡ true → x ≡ true
 and_left true y e = refl

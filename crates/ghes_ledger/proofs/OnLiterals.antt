@@ -14,10 +14,11 @@ use Rattle.ghes_ledger.specs.declared.ledger.Mark.{Mark}
 use Rattle.ghes_ledger.specs.declared.ledger.Reported.TheVariants.{New}
 use Rattle.ghes_ledger.specs.declared.ledger.Taken.TheVariants.{Delivered, Dropped}
 use Rattle.ghes_ledger.specs.Asks.{Fail, Asks, Quiet, Makes, Runs}
-use Rattle.ghes_ledger.specs.History.{Act, script_end, Executed, of_context}
+use Rattle.ghes_ledger.specs.History.{Act, script_end, Executed, of_context, by_source}
 use Rattle.ghes_ledger.specs.Kept.{Kept}
 use Rattle.ghes_ledger.specs.Lawful.{FitsLook, IsLawful, AreExecuted, Tells, IsLawfulLine, Looks}
-use Rattle.ghes_ledger.specs.Names.{served_by}
+use Rattle.ghes_ledger.specs.Fates.{entries_of}
+use Rattle.ghes_ledger.specs.Names.{queued_names, served_by}
 use Rattle.ghes_ledger.specs.Plan.{Plan}
 use Rattle.ghes_ledger.specs.Reports.{hit}
 use Rattle.ghes_ledger.specs.Turns.{AreTurns}
@@ -397,3 +398,22 @@ a_hit_is_no_block e = some_is_no_number 1 e
 pub at_ten_seconds : FitsLook 4 4096 (Some z) (record { source = 0; seq = 1; time = 0; bytes = z } ∷ []) 10000000000 (Queued 2)
 unfolding reason_of hit
 at_ten_seconds = refl
+
+-- the order of a context is that of its turns, and not that in which a ledger keeps the calls of a line
+abbrev two_turns : List Call
+two_turns = call 0 0 (Queued 1) NotAsked ∷ call 0 2 (Queued 1) NotAsked ∷ call 0 0 (Queued 2) NotAsked ∷ []
+
+second_source : List (ℕ × ℕ) → ℕ
+second_source [] = 0
+second_source (name ∷ names) = first_source names
+
+pub kept_order_is_not_the_order : served_by plan 0 (queued_names two_turns) ≡ served_by plan 0 (queued_names (by_source plan two_turns)) → ⊥
+unfolding first_source second_source
+kept_order_is_not_the_order e = two_is_zero 2 0 refl refl (ap second_source e)
+
+-- a packet of another source is no entry of a block
+pub another_source_is_no_entry : entries_of 1 3 kept ≡ []
+another_source_is_no_entry = refl
+
+pub its_own_source_is_one : entries_of 0 3 kept ≡ worst ∷ []
+its_own_source_is_one = refl

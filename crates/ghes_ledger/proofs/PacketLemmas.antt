@@ -9,7 +9,7 @@ use Rattle.cper_block.specs.declared.malformed.Malformed.{Malformed as Reason}
 use Rattle.ghes_call.specs.declared.call.Call.{Call}
 use Rattle.ghes_call.specs.Packet.{PacketSeen}
 use Rattle.ghes_ledger.specs.History.{Executed, calls_in}
-use Rattle.ghes_ledger.specs.Image.{image_of, image_reason}
+use Rattle.cper_block.specs.Image.{image_of, image_reason}
 use Rattle.ghes_ledger.specs.Lawful.{IsImageIn}
 use Rattle.ghes_ledger.specs.Names.{name_of, queued_names, served_by}
 use Rattle.ghes_ledger.specs.Outcomes.{pending_number}

@@ -132,7 +132,7 @@ standing_same s before past past' same =
     ∙ ap (λ ns. cond (ltb 0 (length (stuck_calls s past'))) None (slice_get (queue s before) (length ns))) numbers
 
 -- the calls on a source, with one more behind them
-on_push : (s : ℕ) (past : List Call) (call : Call) → on_source s (past ++ call ∷ []) ≡ on_source s past ++ cond (eqb call.source s) (call ∷ []) []
+pub on_push : (s : ℕ) (past : List Call) (call : Call) → on_source s (past ++ call ∷ []) ≡ on_source s past ++ cond (eqb call.source s) (call ∷ []) []
 on_push s past call = filter-append (λ c. eqb c.source s) past (call ∷ [])
 
 abbrev pub FitsLookAt : Plan → List Executed → List Report → List Call → Call → Type 0
@@ -142,7 +142,7 @@ false_not_true : false ≡ true → ⊥
 false_not_true x = cc
 
 -- a source that a context serves is not that of another context's call
-other_source : (plan : Plan) (s c : ℕ) (call : Call) → eqb call.context c ≡ false → call.context ≡ plan.server call.source → plan.server s ≡ c → eqb call.source s ≡ false
+pub other_source : (plan : Plan) (s c : ℕ) (call : Call) → eqb call.context c ≡ false → call.context ≡ plan.server call.source → plan.server s ≡ c → eqb call.source s ≡ false
 other_source plan s c call e by is =
     let differ : call.source ≡ s → ⊥ = λ at. false_not_true (sym e ∙ eq-eqb call.context c (by ∙ ap plan.server at ∙ is)) in
     ne_eqb call.source s differ

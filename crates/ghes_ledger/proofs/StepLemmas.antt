@@ -9,7 +9,7 @@ use Rattle.ghes_call.specs.declared.call.Outcome.TheVariants.{Queued, Malformed,
 use Rattle.ghes_ledger.specs.declared.ledger.Report.{Report}
 use Rattle.ghes_ledger.specs.Asks.{Makes, Calls}
 use Rattle.ghes_ledger.specs.History.{Executed, calls_in}
-use Rattle.ghes_ledger.specs.Image.{image_of, image_reason, is_fatal}
+use Rattle.cper_block.specs.Image.{image_of, image_reason, is_fatal}
 use Rattle.ghes_ledger.specs.Lawful.{FitsBlock, FitsHit, FitsLook, HasRoom, Looks, IsImageIn, IsLawfulCall, IsLawfulLine}
 use Rattle.ghes_ledger.specs.Names.{served_by, queued_names, fatal_names}
 use Rattle.ghes_ledger.specs.Outcomes.{pending_number}

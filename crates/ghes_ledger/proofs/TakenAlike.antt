@@ -9,7 +9,7 @@ use Rattle.ghes_ledger.specs.declared.ledger.Report.{Report}
 use Rattle.ghes_ledger.specs.declared.ledger.Taken.{Taken}
 use Rattle.ghes_ledger.specs.declared.ledger.Taken.TheVariants.{Delivered, Dropped}
 use Rattle.ghes_ledger.specs.History.{Executed}
-use Rattle.ghes_ledger.specs.Image.{image_of, image_reason}
+use Rattle.cper_block.specs.Image.{image_of, image_reason}
 use Rattle.ghes_ledger.specs.Lawful.{IsImageIn}
 use Rattle.ghes_ledger.specs.Names.{packet_of, panic_packet, name_of, taken_names, panic_names, waiting, fatals}
 use Rattle.ghes_ledger.specs.Plan.{Plan}

@@ -14,13 +14,13 @@ use Rattle.ghes_ledger.specs.declared.ledger.InjectionEnd.TheVariants as ended
 use Rattle.ghes_ledger.specs.declared.ledger.Report.{Report}
 use Rattle.ghes_ledger.specs.Asks.{Peek, Asks, Quiet, Makes, Injects, Calls, Runs, Drains, Ends}
 use Rattle.ghes_ledger.specs.History.{Act, script_end, Made, Executed, acts_in, calls_in, ends_in, peeks_in, taken_in, of_context, kept_calls, marks_in, clock_after, Each, EachCall}
-use Rattle.ghes_ledger.specs.Image.{image_of, image_reason, is_fatal}
+use Rattle.cper_block.specs.Image.{image_of, image_reason, is_fatal}
 use Rattle.ghes_ledger.specs.Kept.{Kept}
 use Rattle.ghes_ledger.specs.Names.{packet_of, panic_packet, queued_names, fatal_names, taken_names, panic_names, waiting, fatals, served_by}
 use Rattle.ghes_ledger.specs.Outcomes.{number_of, acknowledges, is_fault, is_done}
 use Rattle.ghes_ledger.specs.Plan.{Plan}
 use Rattle.ghes_ledger.specs.Queue.{queue, block_at, numbers_of, acknowledged, faulty_calls, fails_in, standing}
-use Rattle.ghes_ledger.specs.Reports.{hit, reports_in, AreTold}
+use Rattle.ghes_ledger.specs.Reports.{hit, IsFound, reports_in, AreTold}
 use Rattle.ghes_ledger.specs.Turns.{AreCallsOf, IsMadeBy}
 
 -- The laws of a line
@@ -131,6 +131,14 @@ Looks plan before reports seen past (call ∷ calls) =
 abbrev pub LooksInLine : Plan → List Executed → Executed → Type 0
 LooksInLine plan before line =
     (c : ℕ) → Looks plan before (reports_in (line ∷ before)) (length (reports_in before)) (calls_in before) (of_context c line.calls)
+
+-- A Duplicate call of a line, told all calls before it, names a report that stands behind the line and has the bytes of the block's
+-- image, is not from after the call, and is less than the window old (own choice).
+abbrev pub NamesReport : Plan → List Executed → Executed → List Call → Call → Outcome → Type 0
+NamesReport plan before line past call (Duplicate number report) =
+    (block : List ℕ) × (standing call.source before past ≡ Some block)
+    × IsFound (reports_in (line ∷ before)) (image_of (plan.limit call.source) block) call.now report
+NamesReport plan before line past call _ = Unit {0}
 
 -- A packet is the image of the block that it names, with the reason of that image.
 pub record IsImageIn (plan : Plan) (history : List Executed) (packet : PacketSeen) : Type 0 where

@@ -1,8 +1,8 @@
 pub mod Alike
 pub mod Asks
+pub mod Counts
 pub mod Fates
 pub mod History
-pub mod Image
 pub mod Kept
 pub mod Lawful
 pub mod Names
@@ -10,4 +10,5 @@ pub mod Outcomes
 pub mod Plan
 pub mod Queue
 pub mod Reports
+pub mod Settled
 pub mod Turns

@@ -1,5 +1,5 @@
 -- The reports, and which of them a look finds.
-use Rattle.std.specs.Prelude.{◌≡◌, ℕ, ◌+◌, ◌-◌, ◌&&◌, if◌then◌else◌, nat_lt, nat_le, Bool, true, false, List, [], ◌∷◌, ◌++◌, length, replicate, set, Option, Some, None, bytes_eq}
+use Rattle.std.specs.Prelude.{◌≡◌, ◌≤◌, ◌<◌, ℕ, ◌+◌, ◌-◌, ◌&&◌, if◌then◌else◌, nat_lt, nat_le, Bool, true, false, List, [], ◌∷◌, ◌++◌, length, replicate, set, slice_get, Option, Some, None, bytes_eq}
 use Rattle.ghes_ledger.specs.declared.ledger.Taken.{Taken}
 use Rattle.ghes_ledger.specs.declared.ledger.Taken.TheVariants.{Delivered, Dropped}
 use Rattle.ghes_ledger.specs.declared.ledger.Report.{Report}
@@ -72,6 +72,15 @@ cache_after n places (report ∷ reports) =
 -- none.
 unfoldable pub hit : ℕ → List Report → List ℕ → ℕ → Option ℕ
 hit places reports bytes now = hit_in (cache_after 1 (replicate places None) reports) bytes now
+
+-- the report of this number has these bytes, is not from after this time, and is less than the window old (own choice)
+pub record IsFound (reports : List Report) (looked : List ℕ) (now number : ℕ) : Type 0 where
+  pub report : Report
+  pub at : slice_get reports (number - 1) ≡ Some report
+  pub first : 1 ≤ number
+  pub bytes : report.bytes ≡ looked
+  pub past : report.time ≤ now
+  pub recent : now - report.time < window
 
 -- the reports that these taken blocks make at a time (own choice)
 abbrev pub reports_at : ℕ → List Taken → List Report

@@ -10,9 +10,15 @@ mod fate;
 mod laws;
 mod ledger;
 mod lists;
+mod settling;
+mod summary;
+#[cfg(test)]
+mod tests;
 
 pub use fate::Fate;
 pub use laws::{
-    a_ledger_tells_one_history, a_plain_script_has_one_ledger, each_block_has_one_fate,
+    a_duplicate_was_reported, a_ledger_tells_one_history, a_plain_script_has_one_ledger,
+    each_block_has_one_fate,
 };
 pub use ledger::{InjectionEnd, Ledger, Mark, PanicEntry, Report, Reported, Taken};
+pub use summary::{SourceSummary, Summary};

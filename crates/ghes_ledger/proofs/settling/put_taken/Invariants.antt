@@ -1,0 +1,7 @@
+use Rattle.std.proofs.Common.{◌≡◌, take}
+use Rattle.std.specs.List.{flat_map}
+use Rattle.ghes_ledger.specs.Settled.{numbered_taken, filled}
+use Rattle.ghes_ledger.proofs.settling.put_taken.Given as goal
+
+abbrev pub invariant-loop-entry : goal.invariant-loop-entry
+invariant-loop-entry l = l.table ≡ filled l.fn.table (flat_map (numbered_taken l.source) (take l.entry-index l.taken))
