@@ -4,3 +4,5 @@ pub mod LimitLemmas
 mod LineLemmas
 pub mod OwnBytes
 mod ShownLemmas
+mod SoundLemmas
+mod BetweenLemmas

@@ -7,10 +7,15 @@ mod bytes;
 mod entry;
 mod field;
 mod laws;
+mod lines;
+mod panic;
+mod replay;
 mod report;
 mod section;
+mod summary;
 #[cfg(test)]
 mod tests;
 
 pub use laws::{a_higher_limit_lets_a_block_in, bytes_behind_a_block_are_not_printed};
+pub use replay::{lines_text, panic_text, replay_text, summary_text};
 pub use report::{block_text, drop_text, malformed_lines, report_text};
