@@ -2,7 +2,7 @@
 use Rattle.std.proofs.Common.{◌≡◌, ℕ, List, Option, Result, Ok, Err, inl}
 use Rattle.ghes_replay.specs.declared.exit.Refusal.{Refusal}
 use Rattle.ghes_replay.specs.declared.exit.Refusal.TheVariants as refusals
-use Rattle.ghes_serial.specs.Kept.{Kept}
+use Rattle.ghes_ledger.specs.Kept.{Kept}
 use Rattle.ghes_replay.specs.Seen.{FilesSeen}
 use Rattle.ghes_replay.specs.Task.{Task, Replay, Check, Decode, IsTask, IsFileOf, IsFileWord}
 use Rattle.ghes_replay.specs.Run.{TaskCause, Cause, LoadsSource, Does, Answers}

@@ -2,7 +2,7 @@
 use Rattle.std.proofs.Common.{◌≡◌, ◌<◌, ◌⊎◌, ℕ, List, Option, None, inl, inr, refl, sym, ap, subst, ◌∙◌, arith}
 use Rattle.ghes_replay.specs.declared.exit.Refusal.{Refusal}
 use Rattle.ghes_replay.specs.declared.exit.Refusal.TheVariants as refusals
-use Rattle.ghes_serial.specs.Kept.{Kept}
+use Rattle.ghes_ledger.specs.Kept.{Kept}
 use Rattle.ghes_replay.specs.Refusal.{status_of, line_of, refused_word}
 use Rattle.ghes_replay.specs.Seen.{FilesSeen, SinkSeen}
 use Rattle.ghes_replay.specs.Task.{Task, Replay, Check, Decode, IsTask}

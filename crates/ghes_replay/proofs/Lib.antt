@@ -1,13 +1,12 @@
 pub mod AnswerLemmas
 pub mod EndLemmas
-pub mod Finishing
 pub mod ListingLemmas
 pub mod LoadLemmas
 pub mod PrintLemmas
 pub mod PutLemmas
 pub mod RunLemmas
-pub mod Running
 pub mod ServedLemmas
+pub mod SoundLemmas
 pub mod TaskLemmas
 pub mod ToldLemmas
 pub mod WordLemmas

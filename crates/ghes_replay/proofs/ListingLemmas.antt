@@ -8,7 +8,7 @@ use Rattle.ghes_outside.specs.declared.files.LoadError.TheVariants as loads
 use Rattle.ghes_replay.specs.declared.exit.InputFile.TheVariants as files
 use Rattle.ghes_replay.specs.declared.exit.Refusal.{Refusal}
 use Rattle.ghes_replay.specs.declared.exit.Refusal.TheVariants as refusals
-use Rattle.ghes_serial.specs.Kept.{Kept}
+use Rattle.ghes_ledger.specs.Kept.{Kept}
 use Rattle.ghes_replay.specs.Seen.{FilesSeen, Loads}
 use Rattle.ghes_replay.specs.Task.{Check, IsEinjName, IsFileOf}
 use Rattle.ghes_replay.specs.Listing.{HasInjection, EinjCause, LoadsEinj, LoadsInjection, Lists, CheckCause}

@@ -12,7 +12,7 @@ use Rattle.ghes_plain_script.specs.declared.line.What.TheVariants.{Raise, Nmi, W
 use Rattle.ghes_replay.specs.declared.exit.InputFile.TheVariants as files
 use Rattle.ghes_replay.specs.declared.exit.Refusal.{Refusal}
 use Rattle.ghes_replay.specs.declared.exit.Refusal.TheVariants as refusals
-use Rattle.ghes_serial.specs.Kept.{Kept}
+use Rattle.ghes_ledger.specs.Kept.{Kept}
 use Rattle.ghes_plain_script.specs.Script.{IsLineOf, IsOfFirst, SpellsFrom}
 use Rattle.ghes_replay.specs.Seen.{FilesSeen, Loads, IsLoaded}
 use Rattle.ghes_replay.specs.Served.{served}

@@ -9,7 +9,7 @@ use Rattle.apei_hest.specs.declared.source.Ghes.{Ghes}
 use Rattle.ghes_replay.specs.declared.exit.InputFile.TheVariants as files
 use Rattle.ghes_replay.specs.declared.exit.Refusal.{Refusal}
 use Rattle.ghes_replay.specs.declared.exit.Refusal.TheVariants as refusals
-use Rattle.ghes_serial.specs.Kept.{Kept}
+use Rattle.ghes_ledger.specs.Kept.{Kept}
 use Rattle.ghes_replay.specs.Refusal.{status_of}
 use Rattle.ghes_replay.specs.Seen.{FilesSeen}
 use Rattle.ghes_replay.specs.Task.{Task, Replay, Check, Decode, IsEinjName}

@@ -9,7 +9,7 @@ use Rattle.ghes_replay.specs.declared.exit.InputFile.TheVariants as files
 use Rattle.ghes_replay.specs.declared.exit.Refusal.{Refusal}
 use Rattle.ghes_replay.specs.declared.exit.Refusal.TheVariants as refusals
 use Rattle.ghes_replay.specs.Check.{check_text}
-use Rattle.ghes_serial.specs.Kept.{Kept}
+use Rattle.ghes_ledger.specs.Kept.{Kept}
 use Rattle.ghes_replay.specs.Loading.{HasHest, HestCause}
 use Rattle.ghes_replay.specs.Seen.{FilesSeen, table_limit, AddsNames, Loads, IsLoaded}
 use Rattle.ghes_replay.specs.Task.{IsEinjName}

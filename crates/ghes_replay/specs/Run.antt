@@ -1,5 +1,5 @@
 -- What a run of the program promises: its text, and the cause of each refusal.
-use Rattle.std.specs.Prelude.{◌≡◌, ◌⊎◌, ℕ, List, Bool, false, ◌||◌, ◌==◌, if◌then◌else◌, Option, Some, None, Result, Ok, Err, IfOk, IfErr, OnOk}
+use Rattle.std.specs.Prelude.{◌≡◌, ◌⊎◌, ℕ, List, map, Bool, false, ◌||◌, ◌==◌, if◌then◌else◌, Option, Some, None, Result, Ok, Err, IfOk, IfErr, OnOk}
 use Rattle.std.specs.List.{list_any}
 use Rattle.apei_hest.specs.declared.source.Ghes.{Ghes}
 use Rattle.apei_hest.specs.declared.source.Source.{Source}
@@ -9,12 +9,12 @@ use Rattle.ghes_replay.specs.declared.exit.InputFile.TheVariants as files
 use Rattle.ghes_replay.specs.declared.exit.Refusal.{Refusal}
 use Rattle.ghes_replay.specs.declared.exit.Refusal.TheVariants as refusals
 use Rattle.ghes_replay.specs.Decode.{IsDecoded, DecodeCause}
-use Rattle.ghes_serial.specs.History.{Step}
-use Rattle.ghes_replay.specs.Planned.{limit_of}
-use Rattle.ghes_serial.specs.Kept.{Kept}
-use Rattle.ghes_serial.specs.Lawful.{IsLawful}
+use Rattle.ghes_ledger.specs.History.{Executed}
+use Rattle.ghes_replay.specs.Planned.{plan_of, text_of}
+use Rattle.ghes_ledger.specs.Kept.{Kept}
+use Rattle.ghes_ledger.specs.Lawful.{IsLawful}
 use Rattle.ghes_replay.specs.Refusal.{status_of, line_of, memory_line, refused_word}
-use Rattle.ghes_replay.specs.Text.{replay_text}
+use Rattle.ghes_serial.specs.Lines.{act_of}
 use Rattle.ghes_replay.specs.Seen.{FilesSeen, SinkSeen, Loads}
 use Rattle.ghes_replay.specs.Served.{served}
 use Rattle.ghes_replay.specs.Task.{Task, Replay, Check, Decode, IsTask, IsFileOf, IsFileWord}
@@ -27,9 +27,9 @@ pub record IsReplayed (seen : FilesSeen) (hest script : List ℕ) (ledger : Kept
   pub table : HasTable seen hest ghes
   pub lines : List Line
   pub spelled : HasScript seen script ghes lines
-  pub history : List Step
-  pub lawful : IsLawful (limit_of ghes) lines ledger history
-  pub told : text ≡ replay_text ghes.id ledger history
+  pub history : List Executed
+  pub lawful : IsLawful (plan_of ghes) (map act_of lines) ledger history
+  pub told : text ≡ text_of (plan_of ghes) history ledger
 
 -- the task was done, with this ledger, which a replay alone has, and this text
 abbrev pub IsDone : FilesSeen → Task → Option Kept → List ℕ → Type 0
@@ -70,7 +70,7 @@ TaskCause before after (Decode block) refusal = DecodeCause before after block r
 -- what a replay of lines answers, by its ledger and its text
 abbrev pub RunsLines : Ghes → List Line → Result (Option Kept × List ℕ) Refusal → Type 0
 RunsLines ghes lines (Ok (Some ledger, text)) =
-    (history : List Step) × IsLawful (limit_of ghes) lines ledger history × (text ≡ replay_text ghes.id ledger history)
+    (history : List Executed) × IsLawful (plan_of ghes) (map act_of lines) ledger history × (text ≡ text_of (plan_of ghes) history ledger)
 RunsLines ghes lines (Ok (None, text)) = ⊥
 RunsLines ghes lines (Err refusals.OutOfMemory) = Unit {0}
 RunsLines ghes lines (Err refusals.Usage) = ⊥

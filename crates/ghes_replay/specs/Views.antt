@@ -3,7 +3,7 @@ use Rattle.std.specs.Prelude.{ℕ, List, Vec, Option, Result, Ok, Err}
 use Rattle.std.specs.declared.alloc.Global.{Global}
 use Rattle.ghes_plain_script.specs.declared.line.Line.{Line}
 use Rattle.ghes_replay.specs.declared.doing.Done.{Done}
-use Rattle.ghes_serial.specs.Kept.{Kept}
+use Rattle.ghes_ledger.specs.Kept.{Kept}
 use Rattle.ghes_replay.specs.declared.exit.Refusal.{Refusal}
 
 -- the lines of a vector, or the refusal

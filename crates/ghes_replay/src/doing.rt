@@ -16,9 +16,9 @@ use crate::script_run::{Replayed, run_script};
 use crate::served::served;
 use apei_einj::Einj;
 use apei_hest::{Ghes, Source};
+use ghes_ledger::Ledger;
 use ghes_outside::Files;
 use ghes_plain_script::Line;
-use ghes_serial::Ledger;
 use std::alloc::Global;
 
 /// How many bytes a block has at most, whatever its source says.

@@ -13,8 +13,8 @@ use crate::doing::{Done, check, decode, replay};
 use crate::exit::{InputFile, MEMORY_LINE, Refusal};
 use crate::putting::end_with;
 use crate::task::{Task, task_of};
+use ghes_ledger::{Ledger, PanicEntry};
 use ghes_outside::{Files, Sink};
-use ghes_serial::{Ledger, PanicEntry};
 use std::alloc::Global;
 
 /// How a run ended.
@@ -64,7 +64,7 @@ fn done_status(ledger: &Option<Ledger>) -> u8
     ensures { result ≡ done_status ledger.now }
 {
     match ledger {
-        Some(ledger) if has_fatal(ledger.panic_list()) => 1,
+        Some(ledger) if has_fatal(ledger.panic()) => 1,
         _ => 0,
     }
 }

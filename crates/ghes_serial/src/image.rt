@@ -1,9 +1,8 @@
 //! What the receiver takes of a block that stands.
 ghost use Rattle.std.specs.Prelude.{◌≡◌, ◌≤◌, length, IfOk};
 ghost use Rattle.cper_block.specs.Header.{header_of};
-ghost use Rattle.ghes_serial.specs.Image.{padded, image_of, image_reason, is_fatal};
+ghost use Rattle.ghes_ledger.specs.Image.{padded, image_of, image_reason, is_fatal};
 
-use apei_base::Bytes;
 use byteorder::{ByteOrder, LittleEndian};
 use cper_block::{Block, Header, Malformed};
 use std::alloc::{AllocError, Global};
@@ -13,8 +12,8 @@ const HEADER: usize = 20;
 
 /// The image of a block, and what it says.
 #[derive(Debug, Drop)]
-pub struct Image {
-    pub bytes: Bytes,
+pub(crate) struct Image {
+    pub bytes: Vec<u8>,
     /// Why the image is malformed, if it is.
     pub reason: Option<Malformed>,
     /// Whether its severity is fatal.
@@ -57,7 +56,7 @@ impl Image {
     ///
     /// After Linux 6.1, drivers/acpi/apei/ghes.c.
     pub fn take(alloc: Global, block: &[u8], limit: u32) -> Result<Image, AllocError>
-        ensures bytes { IfOk result (λ image. image.bytes ≡ image_of limit block.now) }
+        ensures bytes { IfOk result (λ image. image.bytes.items ≡ image_of limit block.now) }
         ensures reason { IfOk result (λ image. image.reason ≡ image_reason limit block.now) }
         ensures fatal { IfOk result (λ image. image.fatal ≡ is_fatal (image_of limit block.now)) }
     {
@@ -65,7 +64,7 @@ impl Image {
         match header_at(&front).check(limit) {
             Err(reason) => Ok(Image {
                 fatal: is_fatal(&front),
-                bytes: Bytes(front),
+                bytes: front,
                 reason: Some(reason),
             }),
             Ok(length) => {
@@ -73,7 +72,7 @@ impl Image {
                 Ok(Image {
                     reason: Block::read(&bytes, limit).err(),
                     fatal: is_fatal(&bytes),
-                    bytes: Bytes(bytes),
+                    bytes,
                 })
             }
         }

@@ -2,7 +2,7 @@
 use Rattle.std.proofs.Common.{◌≡◌, ◌∙◌, ap, None}
 use Rattle.std.specs.Result.{result_err}
 use Rattle.cper_block.specs.Header.{header_of, block_length, header_reason}
-use Rattle.ghes_serial.specs.Image.{padded}
+use Rattle.ghes_ledger.specs.Image.{padded}
 use Rattle.ghes_serial.proofs.ImageLemmas.{judged_image}
 use Rattle.ghes_serial.proofs.image.Image.take.Goals as goal
 
