@@ -2,12 +2,11 @@ pub mod BareLemmas
 pub mod DoneLemmas
 pub mod EndLemmas
 pub mod FileLemmas
-pub mod Finishing
 pub mod LoadLemmas
 pub mod ProgramLemmas
 pub mod PutLemmas
-pub mod Running
 pub mod ServedLemmas
+pub mod SoundLemmas
 pub mod TaskLemmas
 pub mod ToldLemmas
 pub mod WordLemmas

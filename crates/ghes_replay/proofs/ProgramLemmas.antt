@@ -1,12 +1,15 @@
 -- How the program exits, by its arguments.
-use Rattle.std.proofs.Common.{◌≡◌, ℕ, List, String, Global, Vec, Result, Ok, Err, IfOk, IfErr, map, drop, inl, inr, subst}
+use Rattle.std.proofs.Common.{◌≡◌, ◌≢◌, ℕ, List, String, Global, Vec, Result, Ok, Err, IfOk, IfErr, map, drop, inl, inr, subst}
 use Rattle.std.specs.declared.io.Error.{Error}
+use Rattle.std.specs.declared.io.ErrorKind.TheVariants as kinds
+use Rattle.std.specs.IoError.{error_kind}
 use Rattle.std.specs.declared.vec.IntoIter.{IntoIter}
 use Rattle.std.specs.String.{string_bytes}
 use Rattle.std.specs.Vec.Iter.{into_iter_items}
 use Rattle.ghes_replay.specs.declared.exit.Refusal.{Refusal}
+use Rattle.ghes_replay.specs.declared.exit.Refusal.TheVariants as refusals
 use Rattle.ghes_replay.specs.declared.run.RunEnd.{RunEnd}
-use Rattle.ghes_replay.specs.Program.{ExitsBy, GivesArguments}
+use Rattle.ghes_replay.specs.Program.{ExitsBefore, ExitsBy, GivesArguments}
 use Rattle.ghes_replay.specs.Run.{EndsBefore, EndsBy}
 use Rattle.ghes_replay.specs.Seen.{Outside}
 
@@ -23,3 +26,11 @@ exits_by (Ok args) (Err refusal) before after end status gives ends refused exit
     let P : Refusal → Type 0 = λ r. EndsBefore r before after end in
     inr (end, subst P gives refused, exits)
 exits_by (Err error) result before after end status gives ends refused exits = tt
+
+-- a run for want of arguments that are text
+pub exits_unread : (args : Result (IntoIter (String Global) Global) Error) (result : Result (Vec (String Global) Global) Refusal) (before after : Outside) (end : RunEnd) (status : ℕ) → GivesArguments args result → IfErr result (λ refusal. EndsBefore refusal before after end) → status ≡ end.status → IfErr args (λ error. error_kind error ≢ kinds.OutOfMemory → ExitsBefore refusals.Usage before after status)
+exits_unread (Ok args) result before after end status gives refused exits = tt
+exits_unread (Err error) (Ok all) before after end status gives refused exits = absurd gives
+exits_unread (Err error) (Err refusal) before after end status gives refused exits = λ other.
+    let P : Refusal → Type 0 = λ r. EndsBefore r before after end in
+    (end, subst P (gives.1 other) refused, exits)

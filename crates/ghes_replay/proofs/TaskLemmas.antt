@@ -12,7 +12,7 @@ use Rattle.ghes_replay.specs.declared.exit.InputFile.TheVariants as files
 use Rattle.ghes_replay.specs.declared.exit.Refusal.{Refusal}
 use Rattle.ghes_replay.specs.declared.exit.Refusal.TheVariants as refusals
 use Rattle.ghes_replay.specs.Done.{Output, IsDone, IsReplayed, TaskCause}
-use Rattle.ghes_serial.specs.Kept.{Kept}
+use Rattle.ghes_ledger.specs.Kept.{Kept}
 use Rattle.ghes_replay.specs.Loading.{LoadCause, HestCause, SourceCause, EinjCause, ScriptCause}
 use Rattle.ghes_replay.specs.Refusal.{status_of}
 use Rattle.ghes_replay.specs.Task.{Task, Replay, Check, Decode, IsEinjName}

@@ -1,5 +1,5 @@
 -- What it means that a task is done, and why one is refused.
-use Rattle.std.specs.Prelude.{◌≡◌, ◌⊎◌, ℕ, Bool, false, if◌then◌else◌, List, Option, Some, None, Result, IfOk, IfErr}
+use Rattle.std.specs.Prelude.{◌≡◌, ◌⊎◌, ℕ, Bool, false, if◌then◌else◌, List, map, Option, Some, None, Result, IfOk, IfErr}
 use Rattle.std.specs.List.{list_any}
 use Rattle.apei_einj.specs.declared.entry.Entry.{Entry}
 use Rattle.apei_hest.specs.declared.source.Ghes.{Ghes}
@@ -11,14 +11,14 @@ use Rattle.ghes_replay.specs.declared.exit.Refusal.{Refusal}
 use Rattle.ghes_replay.specs.declared.exit.Refusal.TheVariants as refusals
 use Rattle.ghes_replay.specs.Check.{check_text}
 use Rattle.ghes_replay.specs.Decode.{Decodes}
-use Rattle.ghes_serial.specs.History.{Step}
-use Rattle.ghes_replay.specs.Planned.{limit_of}
-use Rattle.ghes_serial.specs.Kept.{Kept}
-use Rattle.ghes_serial.specs.Lawful.{IsLawful}
+use Rattle.ghes_ledger.specs.History.{Executed}
+use Rattle.ghes_ledger.specs.Kept.{Kept}
+use Rattle.ghes_ledger.specs.Lawful.{IsLawful}
+use Rattle.ghes_replay.specs.Planned.{plan_of, text_of}
+use Rattle.ghes_serial.specs.Lines.{act_of}
 use Rattle.ghes_replay.specs.Loading.{HasHest, HasTable, HasScript, HasInjection, LoadCause, HestCause, SourceCause, EinjCause, ScriptCause, Works}
 use Rattle.ghes_replay.specs.Seen.{IsLoaded}
 use Rattle.ghes_replay.specs.Task.{Task, Replay, Check, Decode, IsEinjName, IsFileOf}
-use Rattle.ghes_replay.specs.Text.{replay_text}
 
 -- what a task gives: the ledger, which a replay alone has, and the whole text
 pub record Output : Type 0 where
@@ -34,9 +34,9 @@ pub record IsReplayed (seen : FilesSeen) (hest script : List ℕ) (ledger : Kept
   pub table : HasTable seen hest ghes
   pub lines : List Line
   pub spelled : HasScript seen script ghes lines
-  pub history : List Step
-  pub lawful : IsLawful (limit_of ghes) lines ledger history
-  pub told : text ≡ replay_text ghes.id ledger history
+  pub history : List Executed
+  pub lawful : IsLawful (plan_of ghes) (map act_of lines) ledger history
+  pub told : text ≡ text_of (plan_of ghes) history ledger
 
 -- The tables were listed: they are accepted, and the text is the listing of the sources and of the entries.
 pub record IsChecked (seen : FilesSeen) (hest einj text : List ℕ) : Type 0 where
@@ -81,7 +81,7 @@ Does before after task result = Works (IsFileOf task) before after (IsDone befor
 abbrev pub TellsLines : Ghes → List Line → Output → Type 0
 TellsLines ghes lines done =
     (ledger : Kept) × (done.ledger ≡ Some ledger)
-    × (history : List Step) × IsLawful (limit_of ghes) lines ledger history × (done.text ≡ replay_text ghes.id ledger history)
+    × (history : List Executed) × IsLawful (plan_of ghes) (map act_of lines) ledger history × (done.text ≡ text_of (plan_of ghes) history ledger)
 
 -- what a replay of lines answers; only memory can be wanting
 pub record RunsLines (ghes : Ghes) (lines : List Line) (result : Result Output Refusal) : Type 0 where

@@ -9,6 +9,5 @@ pub mod Run
 pub mod Seen
 pub mod Served
 pub mod Task
-pub mod Text
 pub mod Told
 pub mod Views

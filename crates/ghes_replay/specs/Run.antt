@@ -5,7 +5,7 @@ use Rattle.ghes_replay.specs.declared.exit.Refusal.{Refusal}
 use Rattle.ghes_replay.specs.declared.exit.Refusal.TheVariants as refusals
 use Rattle.ghes_replay.specs.declared.run.RunEnd.{RunEnd}
 use Rattle.ghes_replay.specs.Done.{Output, output, IsDone, TaskCause, done_status}
-use Rattle.ghes_serial.specs.Kept.{Kept}
+use Rattle.ghes_ledger.specs.Kept.{Kept}
 use Rattle.ghes_replay.specs.Loading.{CountsFailed}
 use Rattle.ghes_replay.specs.Refusal.{status_of, line_of, refused_name}
 use Rattle.ghes_replay.specs.Seen.{Outside, NoneFailed}

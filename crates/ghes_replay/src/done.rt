@@ -3,7 +3,7 @@ ghost use Rattle.std.specs.Prelude.{◌≡◌};
 ghost use Rattle.std.specs.List.{list_any};
 ghost use Rattle.ghes_replay.specs.Done.{done_status};
 
-use ghes_serial::{Ledger, PanicEntry};
+use ghes_ledger::{Ledger, PanicEntry};
 
 /// What was done: the ledger, where it was a replay, and the whole output.
 #[derive(Drop)]
@@ -24,7 +24,7 @@ pub(crate) fn done_status(ledger: &Option<Ledger>) -> u8
     ensures { result ≡ done_status ledger.now }
 {
     match ledger {
-        Some(ledger) if has_fatal(ledger.panic_list()) => 1,
+        Some(ledger) if has_fatal(ledger.panic()) => 1,
         _ => 0,
     }
 }

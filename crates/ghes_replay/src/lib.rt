@@ -15,12 +15,12 @@ mod served;
 mod task;
 #[cfg(test)]
 mod tests;
-mod text;
 
 pub use exit::{InputFile, Refusal};
-pub use ghes_serial::{
-    AckState, Call, Ledger, Mark, Outcome, Packet, PanicEntry, Reply, Report, Reported, Taken,
-    a_ledger_tells_one_history, each_block_has_one_fate,
+pub use ghes_call::{AckState, Call, Outcome, Reply};
+pub use ghes_ledger::{
+    Ledger, Mark, PanicEntry, Report, Reported, Taken, a_ledger_tells_one_history,
+    each_block_has_one_fate,
 };
 pub use program::ghes_main;
 pub use run::{RunEnd, check_run, decode_run, ghes_run};

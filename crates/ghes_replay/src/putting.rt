@@ -4,8 +4,8 @@ ghost use Rattle.ghes_outside.specs.Outside.{Rose, Appends, AppendsFront};
 ghost use Rattle.ghes_replay.specs.Run.{WasPut};
 
 use crate::RunEnd;
+use ghes_ledger::Ledger;
 use ghes_outside::{PutFailed, Sink};
-use ghes_serial::Ledger;
 
 /// How many bytes are put at once.
 const PIECE: usize = 4096;

@@ -16,8 +16,8 @@ use crate::exit::{MEMORY_LINE, Refusal};
 use crate::putting::end_with;
 use crate::replay::replay;
 use crate::task::{Task, task_of};
+use ghes_ledger::Ledger;
 use ghes_outside::{Files, Sink};
-use ghes_serial::Ledger;
 use std::alloc::Global;
 
 /// How a run ended.

@@ -1,15 +1,16 @@
-ghost use Rattle.std.specs.Prelude.{◌≡◌, ◌<◌, ◌≤◌, ◌^◌, ◌+◌, ◌++◌, List, length, OnOk, IfOk};
+//! Replays the lines of a script: runs them, and then makes the text of the ledger.
+ghost use Rattle.std.specs.Prelude.{◌≡◌, ◌<◌, ◌≤◌, ◌^◌, List, map, length, IfOk};
 ghost use Rattle.std.specs.List.{AllByRecursion};
-ghost use Rattle.ghes_serial.specs.Execute.{executed, step_of};
-ghost use Rattle.ghes_serial.specs.History.{Step, act_of, script_end};
-ghost use Rattle.ghes_serial.specs.Lawful.{IsLawful};
+ghost use Rattle.ghes_ledger.specs.History.{Executed};
+ghost use Rattle.ghes_ledger.specs.Lawful.{IsLawful};
+ghost use Rattle.ghes_replay.specs.Planned.{text_of};
 ghost use Rattle.ghes_plain_script.specs.Script.{IsOfFirst};
-ghost use Rattle.ghes_serial.specs.Sound.{IsSound};
-ghost use Rattle.ghes_replay.specs.Text.{step_text, replay_text};
+ghost use Rattle.ghes_serial.specs.Lines.{act_of, one_source};
 
-use crate::text::{panic_text, step_text, summary_text};
+use ghes_ledger::Ledger;
 use ghes_plain_script::Line;
-use ghes_serial::{Ledger, Replay};
+use ghes_report::replay_text;
+use ghes_serial::{Run, run_lines};
 use std::alloc::{AllocError, Global};
 
 /// A script that was replayed to its end.
@@ -20,59 +21,8 @@ pub(crate) struct Replayed {
     pub text: Vec<u8>,
 }
 
-// Executes a line, and appends its text.
-fn run_line(
-    alloc: Global,
-    id: u16,
-    replay: &mut Replay,
-    text: &mut Vec<u8>,
-    line: &Line,
-) -> Result<(), AllocError>
-    requires few { length replay.old.blocks.made < 2 ^ 32 }
-    requires sound { AllByRecursion IsSound replay.old.pending }
-    ensures replay { OnOk result (replay.new ≡ executed (act_of line.now) replay.old) }
-    ensures text { OnOk result (text.new.items ≡ text.old.items ++ step_text id (step_of (act_of line.now) replay.old)) }
-{
-    let calls = replay.ledger.call_count();
-    let taken = replay.ledger.taken_count();
-    replay.execute(alloc, line)?;
-    let ledger = &replay.ledger;
-    step_text(
-        alloc,
-        text,
-        id,
-        ledger.calls_from(calls),
-        ledger.taken_from(taken),
-    )
-}
-
-// Executes the end of the script, and appends its text.
-fn run_end(
-    alloc: Global,
-    id: u16,
-    replay: &mut Replay,
-    text: &mut Vec<u8>,
-) -> Result<(), AllocError>
-    requires { AllByRecursion IsSound replay.old.pending }
-    ensures replay { OnOk result (replay.new ≡ executed script_end replay.old) }
-    ensures text { OnOk result (text.new.items ≡ text.old.items ++ step_text id (step_of script_end replay.old)) }
-{
-    let calls = replay.ledger.call_count();
-    let taken = replay.ledger.taken_count();
-    replay.finish(alloc)?;
-    let ledger = &replay.ledger;
-    step_text(
-        alloc,
-        text,
-        id,
-        ledger.calls_from(calls),
-        ledger.taken_from(taken),
-    )
-}
-
-/// Executes the lines of a script, up to the first with a fatal block, and then the end of the script.
-///
-/// All lines are of the one source, which has this id and whose blocks have this limit.
+/// Replays the lines of a script on the one source, which has this id and whose blocks have this limit: runs them, and makes the
+/// text behind the run.
 pub(crate) fn run_script(
     alloc: Global,
     id: u16,
@@ -82,23 +32,15 @@ pub(crate) fn run_script(
     requires few { length lines.now < 2 ^ 32 }
     requires first { AllByRecursion (λ line. IsOfFirst line.what) lines.now }
     requires limit { limit ≤ 65536 }
-    ensures { IfOk result (λ replayed. (history : List Step) × IsLawful limit lines.now replayed.ledger history
-        × (replayed.text.items ≡ replay_text id replayed.ledger history)) }
+    ensures { IfOk result (λ replayed. (history : List Executed)
+        × IsLawful (one_source id limit) (map act_of lines.now) replayed.ledger history
+        × (replayed.text.items ≡ text_of (one_source id limit) history replayed.ledger)) }
 {
-    let mut replay = Replay::new(alloc, limit);
-    let mut text = Vec::new(alloc);
-    let mut next = 0;
-    while next < lines.len() && !replay.is_stopped() {
-        run_line(alloc, id, &mut replay, &mut text, &lines[next])?;
-        next += 1;
-    }
-    run_end(alloc, id, &mut replay, &mut text)?;
-    panic_text(alloc, &mut text, id, replay.ledger.panic_list())?;
-    let raised = replay.blocks.made();
-    let acknowledged = replay.blocks.acknowledged();
-    summary_text(alloc, &mut text, id, raised, acknowledged, &replay.ledger)?;
-    Ok(Replayed {
-        ledger: replay.ledger,
-        text,
-    })
+    let Run {
+        ledger,
+        raised,
+        acknowledged,
+    } = run_lines(alloc, limit, lines)?;
+    let text = replay_text(alloc, &ledger, &[id], &[raised], &[acknowledged])?;
+    Ok(Replayed { ledger, text })
 }

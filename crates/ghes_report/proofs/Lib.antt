@@ -4,3 +4,5 @@ mod Joining
 pub mod OwnBytes
 mod ShownLemmas
 mod WholeLemmas
+mod SoundLemmas
+mod BetweenLemmas

@@ -2,5 +2,10 @@ pub mod Body
 pub mod Bytes
 pub mod Entry
 pub mod Grown
+pub mod Lines
+pub mod Panic
+pub mod Replay
 pub mod Report
 pub mod Section
+pub mod Sound
+pub mod Summary

@@ -7,11 +7,16 @@ mod bytes;
 mod entry;
 mod field;
 mod laws;
+mod lines;
+mod panic;
+mod replay;
 mod report;
 mod section;
+mod summary;
 #[cfg(test)]
 mod tests;
 mod text;
 
 pub use laws::bytes_behind_a_block_are_not_printed;
+pub use replay::{lines_text, panic_text, replay_text, summary_text};
 pub use report::{block_text, drop_text, malformed_lines, report_text};

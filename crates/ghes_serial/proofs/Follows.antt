@@ -1,47 +1,53 @@
--- A state of a replay that a history leads to, and what holds of the two.
-use Rattle.std.proofs.Common.{◌≡◌, ℕ, ◌≤◌, cond, eqb, List, [], ◌++◌, map, length, take}
-use Rattle.std.specs.List.{range_with_len, flat_map, AllByRecursion}
+-- A history that leads to the state of a replay, and what holds of the two.
+use Rattle.std.proofs.Common.{◌≡◌, ℕ, List, [], ◌∷◌, ◌++◌, length, ap, sym, subst, ◌∙◌}
+use Rattle.ghes_ledger.specs.declared.ledger.PanicEntry.{PanicEntry}
+use Rattle.ghes_ledger.specs.History.{Executed, calls_in, kept_calls, by_source, marks_in, clock_after}
+use Rattle.ghes_ledger.specs.Kept.{Kept, mark_of}
+use Rattle.ghes_ledger.specs.Lawful.{Tells}
+use Rattle.ghes_ledger.specs.Names.{fatal_names, panic_names, fatals}
+use Rattle.ghes_ledger.specs.Plan.{Plan}
+use Rattle.ghes_ledger.specs.Queue.{queue, acknowledged, faulty_calls, stuck_calls}
+use Rattle.ghes_ledger.specs.Reports.{reports_at}
+use Rattle.ghes_ledger.proofs.Serial.{Keeps}
 use Rattle.ghes_serial.specs.declared.execute.Replay.{Replay}
-use Rattle.ghes_serial.specs.History.{Step, acts_in, calls_in, taken_in, marks_in, Each}
-use Rattle.ghes_serial.specs.Queue.{queue, numbers_of, standing}
-use Rattle.ghes_serial.specs.Sound.{IsSound, IsSoundEntry}
-use Rattle.ghes_serial.specs.Lawful.{packet_of, panic_packet, report_of, report_number, packets_from, name_of, queued_names, fatal_names, taken_names, panic_names, waiting, fatals, AreCallsOf, WasMade, FitsBlock, FitsSlots, Drains, StopsAtFatal}
-
--- what holds of the state alone: where each block is
-pub record IsKept (state : Replay) : Type 0 where
-  pub limited : state.limit ≤ 65536
-  pub within : state.blocks.acknowledged ≤ length state.blocks.made
-  pub numbers : (s : ℕ) → numbers_of s state.ledger.calls ≡ cond (eqb 0 s) (range_with_len 1 state.blocks.acknowledged) []
-  pub packets : (map packet_of state.ledger.taken ++ state.pending) ++ map panic_packet state.ledger.panic
-      ≡ packets_from state.limit 0 1 (take state.blocks.acknowledged state.blocks.made)
-  pub names : queued_names state.ledger.calls ≡ (taken_names state.ledger.taken ++ map name_of state.pending) ++ panic_names (waiting state.ledger.panic)
-  pub panic_order : state.ledger.panic ≡ waiting state.ledger.panic ++ fatals state.ledger.panic
-  pub fatal_blocks : panic_names (fatals state.ledger.panic) ≡ fatal_names state.ledger.calls
-  pub no_panic : fatal_names state.ledger.calls ≡ [] → state.ledger.panic ≡ []
-  pub left : (fatal_names state.ledger.calls ≡ [] → ⊥) → state.pending ≡ []
-  pub reports : state.ledger.reports ≡ flat_map report_of state.ledger.taken
-  pub report_numbers : flat_map report_number state.ledger.taken ≡ range_with_len 1 (length state.ledger.reports)
-  pub sound : AllByRecursion IsSound state.pending
-  pub panic_sound : AllByRecursion IsSoundEntry state.ledger.panic
-
--- the state has what the history tells
-pub record IsTold (history : List Step) (state : Replay) : Type 0 where
-  pub calls : state.ledger.calls ≡ calls_in history
-  pub taken : state.ledger.taken ≡ taken_in history
-  pub marks : state.ledger.marks ≡ marks_in history
-  pub queue : (s : ℕ) → queue s (acts_in history) ≡ cond (eqb 0 s) state.blocks.made []
-
--- the laws of each step
-pub record AreLawfulSteps (limit : ℕ) (history : List Step) : Type 0 where
-  pub stops : Each (λ before step. StopsAtFatal before step.act.what) history
-  pub calls : Each (λ before step. AreCallsOf step.act.what step.calls) history
-  pub made : Each (λ before step. AllByRecursion (WasMade before) step.calls) history
-  pub kinds : Each (λ before step. AllByRecursion (λ call. FitsBlock limit (standing call.source before) call.reply.outcome) step.calls) history
-  pub no_slot : Each (λ before step. AllByRecursion (λ call. FitsSlots before call.reply.outcome) step.calls) history
-  pub drained : Each (λ before step. Drains before step step.act.what) history
 
 -- the history leads to the state
-pub record Follows (history : List Step) (state : Replay) : Type 0 where
-  pub kept : IsKept state
-  pub told : IsTold history state
-  pub steps : AreLawfulSteps state.limit history
+pub record Follows (plan : Plan) (history : List Executed) (state : Replay) : Type 0 where
+  pub keeps : Keeps plan history state.pending state.ledger.panic
+  pub tells : Tells plan state.ledger history
+  -- what was raised and acknowledged
+  pub queue : queue 0 history ≡ state.blocks.made
+  pub count : acknowledged 0 (calls_in history) ≡ state.blocks.acknowledged
+  -- no time goes by, and no access fails
+  pub clock : clock_after history ≡ 0
+  pub whole : (t : ℕ) → faulty_calls t (calls_in history) ≡ []
+  pub unstuck : stuck_calls 0 (calls_in history) ≡ []
+  -- behind a fatal call nothing is pending
+  pub left : (fatal_names (calls_in history) ≡ [] → ⊥) → state.pending ≡ []
+
+-- without a panic list no call was fatal so far
+pub none_fatal : (plan : Plan) (history : List Executed) (state : Replay) → state.ledger.panic ≡ [] → Follows plan history state → fatal_names (calls_in history) ≡ []
+none_fatal plan history state none f = sym f.keeps.fatal_blocks ∙ ap (λ xs. panic_names (fatals xs)) none
+
+-- what is kept, without a panic list
+pub unstopped : (plan : Plan) (history : List Executed) (state : Replay) → state.ledger.panic ≡ [] → Follows plan history state → Keeps plan history state.pending []
+unstopped plan history state none f =
+    let P : List PanicEntry → Type 0 = λ panic. Keeps plan history state.pending panic in
+    subst P none f.keeps
+
+-- one more line, told what the ledger has more behind it
+pub tells_more : (plan : Plan) (history : List Executed) (line : Executed) (before after : Kept) → Tells plan before history → after.calls ≡ before.calls ++ by_source plan line.calls → after.taken ≡ before.taken ++ line.taken → after.reports ≡ before.reports ++ reports_at (clock_after history) line.taken → after.injections ≡ before.injections ++ line.ends → after.peeks ≡ before.peeks ++ line.peeks → after.marks ≡ before.marks ++ mark_of line.act.number after ∷ [] → Tells plan after (line ∷ history)
+tells_more plan history line before after t calls taken reports injections peeks marks =
+    let all_calls : after.calls ≡ kept_calls plan history ++ by_source plan line.calls = calls ∙ ap (λ xs. xs ++ by_source plan line.calls) t.calls in
+    let all_taken = taken ∙ ap (λ xs. xs ++ line.taken) t.taken in
+    record {
+      calls = all_calls;
+      taken = all_taken;
+      reports = reports ∙ ap (λ xs. xs ++ reports_at (clock_after history) line.taken) t.reports;
+      injections = injections ∙ ap (λ xs. xs ++ line.ends) t.injections;
+      peeks = peeks ∙ ap (λ xs. xs ++ line.peeks) t.peeks;
+      marks =
+          marks ∙ ap (λ xs. xs ++ mark_of line.act.number after ∷ []) t.marks
+          ∙ ap (λ n. marks_in plan history ++ record { line = line.act.number; calls = n; taken = length after.taken } ∷ []) (ap length all_calls)
+          ∙ ap (λ n. marks_in plan history ++ record { line = line.act.number; calls = length (kept_calls plan history ++ by_source plan line.calls); taken = n } ∷ []) (ap length all_taken);
+    }

@@ -1,12 +1,6 @@
-pub mod DrainLemmas
-pub mod Facts
-pub mod FateLemmas
+pub mod CallSteps
 pub mod Follows
-pub mod FollowsStep
-pub mod ImageLemmas
-pub mod KeptSteps
-pub mod LawfulEnd
-pub mod LawfulSteps
-pub mod OneHistory
-pub mod SoundLemmas
-pub mod ToldSteps
+pub mod Outcomes
+pub mod Running
+pub mod Steps
+pub mod TakingLemmas

@@ -1,16 +1,16 @@
 -- One call of the receiver: its outcome, and what each outcome changes.
 use Rattle.std.specs.Prelude.{ℕ, List, [], ◌∷◌, ◌++◌, length, nat_le, Bool, true, false, slice_get, Option, Some, None}
 use Rattle.cper_block.specs.declared.malformed.Malformed.{Malformed as Reason}
-use Rattle.ghes_serial.specs.declared.ledger.Outcome.{Outcome}
-use Rattle.ghes_serial.specs.declared.ledger.Outcome.TheVariants.{Nothing, Queued, Malformed, Fatal, NoSlot}
-use Rattle.ghes_serial.specs.declared.ledger.AckState.TheVariants.{NotAsked}
-use Rattle.ghes_serial.specs.declared.ledger.Call.{Call}
-use Rattle.ghes_serial.specs.declared.pending.Packet.{Packet}
+use Rattle.ghes_call.specs.declared.call.AckState.TheVariants.{NotAsked}
+use Rattle.ghes_call.specs.declared.call.Call.{Call}
+use Rattle.ghes_call.specs.declared.call.Outcome.{Outcome}
+use Rattle.ghes_call.specs.declared.call.Outcome.TheVariants.{Nothing, Queued, Malformed, Fatal, NoSlot}
+use Rattle.ghes_call.specs.Packet.{PacketSeen}
+use Rattle.cper_block.specs.Image.{image_of, image_reason, is_fatal}
 use Rattle.ghes_serial.specs.Blocks.{Raised}
-use Rattle.ghes_serial.specs.Image.{image_of, image_reason, is_fatal}
 
--- Each slot is taken.
-abbrev pub is_full : List Packet → Bool
+-- each slot is taken (own choice: 16 slots)
+abbrev pub is_full : List PacketSeen → Bool
 is_full pending = nat_le 16 (length pending)
 
 -- The outcome for a block that stands, by why its image is malformed, whether that is fatal, whether each slot is taken,
@@ -27,40 +27,31 @@ abbrev pub outcome_of : ℕ → Option (List ℕ) → Bool → ℕ → Outcome
 outcome_of limit None full number = Nothing
 outcome_of limit (Some block) full number = outcome_by (image_reason limit block) (is_fatal (image_of limit block)) full number
 
--- The block that stands: the first that was raised and not acknowledged.
+-- the block that stands: the first that was raised and not acknowledged
 abbrev pub block_of : Raised → Option (List ℕ)
 block_of blocks = slice_get blocks.made blocks.acknowledged
 
 -- Queued, Malformed and Fatal acknowledge the block that stood.
 abbrev pub blocks_after : Outcome → Raised → Raised
-blocks_after Nothing blocks = blocks
-blocks_after NoSlot blocks = blocks
 blocks_after (Queued number) blocks = record blocks { acknowledged = number }
 blocks_after (Malformed number reason) blocks = record blocks { acknowledged = number }
 blocks_after (Fatal number) blocks = record blocks { acknowledged = number }
+blocks_after _ blocks = blocks
 
 -- the packet of a block: its image, and why that is malformed, if it is
-abbrev pub packet_for : ℕ → ℕ → ℕ → List ℕ → Packet
-packet_for limit source number block = record { source = source; seq = number; bytes = image_of limit block; reason = image_reason limit block }
+abbrev pub packet_for : ℕ → ℕ → ℕ → List ℕ → PacketSeen
+packet_for limit source number block = record { source = source; seq = number; reason = image_reason limit block; bytes = image_of limit block }
 
 -- Queued and Malformed make the packet of the block that stood pending.
-abbrev pub pending_after : ℕ → ℕ → Outcome → Option (List ℕ) → List Packet → List Packet
+abbrev pub pending_after : ℕ → ℕ → Outcome → Option (List ℕ) → List PacketSeen → List PacketSeen
 pending_after limit source (Queued number) (Some block) pending = pending ++ packet_for limit source number block ∷ []
 pending_after limit source (Malformed number reason) (Some block) pending = pending ++ packet_for limit source number block ∷ []
-pending_after limit source (Queued number) None pending = pending
-pending_after limit source (Malformed number reason) None pending = pending
-pending_after limit source Nothing standing pending = pending
-pending_after limit source NoSlot standing pending = pending
-pending_after limit source (Fatal number) standing pending = pending
+pending_after limit source _ standing pending = pending
 
 -- Fatal keeps the packet of the block that stood.
-abbrev pub fatal_after : ℕ → ℕ → Outcome → Option (List ℕ) → Option Packet
+abbrev pub fatal_after : ℕ → ℕ → Outcome → Option (List ℕ) → Option PacketSeen
 fatal_after limit source (Fatal number) (Some block) = Some (packet_for limit source number block)
-fatal_after limit source (Fatal number) None = None
-fatal_after limit source Nothing standing = None
-fatal_after limit source NoSlot standing = None
-fatal_after limit source (Queued number) standing = None
-fatal_after limit source (Malformed number reason) standing = None
+fatal_after limit source _ standing = None
 
 -- a call of context 0 at time 0
 abbrev pub call_at : ℕ → Outcome → Call

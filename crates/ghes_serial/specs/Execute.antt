@@ -1,29 +1,22 @@
--- What executing a line does to the state of a replay. The laws of `Lawful` are proved of it, and know nothing of it.
-use Rattle.std.specs.Prelude.{ℕ, ◌+◌, List, [], ◌∷◌, ◌++◌, map, length, true, false, Option, Some, None}
-use Rattle.std.specs.List.{flat_map}
+-- What executing a line does to the state of a replay. The laws of a ledger are proved of it, and know nothing of it.
+use Rattle.std.specs.Prelude.{ℕ, ◌+◌, List, [], ◌∷◌, ◌++◌, map, true, false, Option, Some, None}
+use Rattle.ghes_call.specs.declared.call.Outcome.{Outcome}
+use Rattle.ghes_call.specs.Packet.{PacketSeen}
+use Rattle.ghes_ledger.specs.declared.ledger.PanicEntry.{PanicEntry}
+use Rattle.ghes_ledger.specs.Asks.{Asks, Makes, Calls, Drains, Ends}
+use Rattle.ghes_ledger.specs.History.{Act}
+use Rattle.ghes_ledger.specs.Kept.{Kept, with_taken, panic_entry, mark_of}
 use Rattle.ghes_serial.specs.declared.execute.Replay.{Replay}
-use Rattle.ghes_plain_script.specs.declared.line.What.{What}
-use Rattle.ghes_plain_script.specs.declared.line.What.TheVariants.{Raise, Nmi, Work}
-use Rattle.ghes_serial.specs.declared.ledger.Outcome.{Outcome}
-use Rattle.ghes_serial.specs.declared.ledger.Call.{Call}
-use Rattle.ghes_serial.specs.declared.ledger.Taken.{Taken}
-use Rattle.ghes_serial.specs.declared.ledger.PanicEntry.{PanicEntry}
-use Rattle.ghes_serial.specs.declared.pending.Packet.{Packet}
 use Rattle.ghes_serial.specs.Call.{block_of, is_full, outcome_of, blocks_after, pending_after, fatal_after, call_at}
-use Rattle.ghes_serial.specs.Kept.{Kept, taken_of, reports_of_packet, panic_entry, mark_of}
-use Rattle.ghes_serial.specs.History.{Act, Step}
 
--- these packets as taken, behind so many reports
-abbrev pub takings : ℕ → List Packet → List Taken
-takings reports [] = []
-takings reports (packet ∷ packets) = taken_of (reports + 1) packet ∷ takings (reports + length (reports_of_packet packet)) packets
+-- the ledger after these packets were taken at time 0, without a look at the reports
+abbrev pub drained : List PacketSeen → Kept → Kept
+drained [] kept = kept
+drained (packet ∷ packets) kept = drained packets (with_taken 0 None packet kept)
 
--- the ledger after these packets were taken
-abbrev pub drained : List Packet → Kept → Kept
-drained packets kept = record kept {
-  taken = kept.taken ++ takings (length kept.reports) packets;
-  reports = kept.reports ++ flat_map reports_of_packet packets;
-}
+-- the ledger after these packets were entered in its panic list
+abbrev pub panicked : List PacketSeen → Kept → Kept
+panicked packets kept = record kept { panic = kept.panic ++ map (panic_entry false) packets }
 
 -- the outcome of a call now
 abbrev pub outcome_now : Replay → Outcome
@@ -34,12 +27,12 @@ abbrev pub raised : List ℕ → Replay → Replay
 raised block replay = record replay { blocks = record replay.blocks { made = replay.blocks.made ++ block ∷ [] } }
 
 -- the panic list behind a call: a fatal packet adds all that is pending, and then itself
-abbrev pub panic_after : List PanicEntry → List Packet → Option Packet → List PanicEntry
+abbrev pub panic_after : List PanicEntry → List PacketSeen → Option PacketSeen → List PanicEntry
 panic_after panic pending None = panic
 panic_after panic pending (Some fatal) = (panic ++ map (panic_entry false) pending) ++ panic_entry true fatal ∷ []
 
 -- what is still pending behind a fatal packet: nothing
-abbrev pub left_by : List Packet → Option Packet → List Packet
+abbrev pub left_by : List PacketSeen → Option PacketSeen → List PacketSeen
 left_by pending None = pending
 left_by pending (Some fatal) = []
 
@@ -66,31 +59,14 @@ worked replay = record replay { pending = []; ledger = drained replay.pending re
 abbrev pub marked : ℕ → Replay → Replay
 marked line replay = record replay { ledger = record replay.ledger { marks = replay.ledger.marks ++ mark_of line replay.ledger ∷ [] } }
 
--- after what an act asks for
-abbrev pub acted : Option What → Replay → Replay
-acted (Some (Raise source block)) replay = raised block replay
-acted (Some (Nmi source)) replay = called source replay
-acted (Some Work) replay = worked replay
-acted None replay = worked replay
+-- after what a line asks for; today's scripts ask for nothing else
+abbrev pub acted : Asks → Replay → Replay
+acted (Makes source block) replay = raised block replay
+acted (Calls source) replay = called source replay
+acted Drains replay = worked replay
+acted Ends replay = worked replay
+acted _ replay = replay
 
--- after an act and its mark
+-- after a line and its mark
 abbrev pub executed : Act → Replay → Replay
-executed act replay = marked act.number (acted act.what replay)
-
--- the calls that an act makes
-abbrev pub calls_by : Option What → Replay → List Call
-calls_by (Some (Raise source block)) replay = []
-calls_by (Some (Nmi source)) replay = call_at source (outcome_now replay) ∷ []
-calls_by (Some Work) replay = []
-calls_by None replay = []
-
--- the blocks that an act takes
-abbrev pub taken_by : Option What → Replay → List Taken
-taken_by (Some (Raise source block)) replay = []
-taken_by (Some (Nmi source)) replay = []
-taken_by (Some Work) replay = takings (length replay.ledger.reports) replay.pending
-taken_by None replay = takings (length replay.ledger.reports) replay.pending
-
--- the step of an act
-abbrev pub step_of : Act → Replay → Step
-step_of act replay = record { act = act; calls = calls_by act.what replay; taken = taken_by act.what replay }
+executed act replay = marked act.number (acted act.asks replay)

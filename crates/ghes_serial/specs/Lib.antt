@@ -1,10 +1,5 @@
 pub mod Blocks
 pub mod Call
 pub mod Execute
-pub mod Fates
-pub mod History
-pub mod Image
-pub mod Kept
-pub mod Lawful
-pub mod Queue
-pub mod Sound
+pub mod Lines
+pub mod Run

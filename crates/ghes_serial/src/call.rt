@@ -1,17 +1,18 @@
 //! One call of the receiver.
 ghost use Rattle.std.specs.Prelude.{◌≡◌, ◌<◌, ◌+◌, ◌^◌, length, IfOk};
+ghost use Rattle.std.specs.Option.{option_map};
+ghost use Rattle.ghes_call.specs.Packet.{seen_of};
 ghost use Rattle.ghes_serial.specs.Call.{block_of, is_full, outcome_by, outcome_of, blocks_after, pending_after, fatal_after};
 
 use crate::blocks::Blocks;
-use crate::image::Image;
 use crate::pending::Pending;
-use crate::{Outcome, Packet};
-use cper_block::Malformed;
+use cper_block::{Image, Malformed};
+use ghes_call::{Buffer, Outcome, Packet};
 use std::alloc::{AllocError, Global};
 
 /// What a call answered, and the packet of a fatal block.
 #[derive(Drop)]
-pub struct Answer {
+pub(crate) struct Answer {
     pub outcome: Outcome,
     pub fatal: Option<Packet>,
 }
@@ -33,7 +34,7 @@ fn outcome_by(reason: Option<Malformed>, fatal: bool, full: bool, number: u32) -
 ///
 /// Without a free slot nothing is acknowledged, and the block stands for a later call. A well-formed fatal block needs no slot.
 /// After Linux 6.1, drivers/acpi/apei/ghes.c.
-pub fn call(
+pub(crate) fn call(
     alloc: Global,
     limit: u32,
     source: u16,
@@ -46,7 +47,7 @@ pub fn call(
     ensures blocks { IfOk result (λ answer. blocks.new ≡ blocks_after answer.outcome blocks.old) }
     ensures pending { IfOk result (λ answer. pending.new
         ≡ pending_after limit source answer.outcome (block_of blocks.old) pending.old) }
-    ensures fatal { IfOk result (λ answer. answer.fatal
+    ensures fatal { IfOk result (λ answer. option_map seen_of answer.fatal
         ≡ fatal_after limit source answer.outcome (block_of blocks.old)) }
 {
     let number = blocks.acknowledged();
@@ -65,14 +66,10 @@ pub fn call(
     let packet = Packet {
         source,
         seq: number + 1,
-        bytes,
         reason,
+        bytes: Buffer(bytes.0),
     };
     match outcome {
-        Outcome::Nothing | Outcome::NoSlot => Ok(Answer {
-            outcome,
-            fatal: None,
-        }),
         Outcome::Queued(_) | Outcome::Malformed(_, _) => {
             pending.push(packet)?;
             blocks.acknowledge();
@@ -88,5 +85,9 @@ pub fn call(
                 fatal: Some(packet),
             })
         }
+        _ => Ok(Answer {
+            outcome,
+            fatal: None,
+        }),
     }
 }

@@ -1,11 +1,16 @@
 //! The state of a replay between two lines, and what each line does to it.
-ghost use Rattle.std.specs.Prelude.{◌≡◌, ◌<◌, ◌^◌, ◌==◌, ◌++◌, not, false, [], map, length, OnOk};
+ghost use Rattle.std.specs.Prelude.{◌≡◌, ◌<◌, ◌^◌, ◌==◌, not, [], length, OnOk};
+ghost use Rattle.ghes_ledger.specs.History.{script_end};
+ghost use Rattle.ghes_ledger.specs.Kept.{nothing_kept};
+ghost use Rattle.ghes_serial.specs.Execute.{drained, panicked, called, worked, executed};
+ghost use Rattle.ghes_serial.specs.Lines.{act_of};
 
 use crate::blocks::Blocks;
 use crate::call::{Answer, call};
 use crate::pending::Pending;
-use crate::{AckState, Call, Ledger, Reply};
 use apei_base::Bytes;
+use ghes_call::{AckState, Call, Reply};
+use ghes_ledger::Ledger;
 use ghes_plain_script::{Line, What};
 use std::alloc::{AllocError, Global};
 
@@ -19,34 +24,30 @@ pub struct Replay {
     pub ledger: Ledger,
 }
 
-ghost use Rattle.ghes_serial.specs.Execute.{drained, called, worked, marked, executed};
-ghost use Rattle.ghes_serial.specs.History.{act_of, script_end};
-ghost use Rattle.ghes_serial.specs.Kept.{nothing_kept, panic_entry};
-
 // Takes each packet, the oldest first: it is delivered, or dropped where it is malformed.
 fn drain(alloc: Global, pending: &mut Pending, ledger: &mut Ledger) -> Result<(), AllocError>
     ensures pending { OnOk result (pending.new ≡ []) }
     ensures ledger { OnOk result (ledger.new ≡ drained pending.old ledger.old) }
 {
     while let Some(packet) = pending.take_first() {
-        ledger.enter_taken(alloc, packet)?;
+        ledger.enter_taken(alloc, &packet, None, 0)?;
     }
     Ok(())
 }
 
 // Enters each packet in the panic list, the oldest first.
-fn panic_rest(pending: &mut Pending, ledger: &mut Ledger) -> Result<(), AllocError>
+fn panic_rest(alloc: Global, pending: &mut Pending, ledger: &mut Ledger) -> Result<(), AllocError>
     ensures pending { OnOk result (pending.new ≡ []) }
-    ensures ledger { OnOk result (ledger.new
-        ≡ record ledger.old { panic = ledger.old.panic ++ map (panic_entry false) pending.old }) }
+    ensures ledger { OnOk result (ledger.new ≡ panicked pending.old ledger.old) }
 {
     while let Some(packet) = pending.take_first() {
-        ledger.enter_panic(packet, false)?;
+        ledger.enter_panic(alloc, &packet, false)?;
     }
     Ok(())
 }
 
 impl Replay {
+    /// Nothing was raised, and nothing is pending.
     pub fn new(alloc: Global, limit: u32) -> Replay
         ensures limit { result.limit ≡ limit }
         ensures blocks { result.blocks ≡ record { made = []; acknowledged = 0 } }
@@ -65,7 +66,7 @@ impl Replay {
     pub fn is_stopped(&self) -> bool
         ensures { result ≡ not (length self.now.ledger.panic == 0) }
     {
-        !self.ledger.panic_list().is_empty()
+        !self.ledger.panic().is_empty()
     }
 
     // One call on a source, and its entry in the ledger; a fatal block makes the panic list.
@@ -92,8 +93,8 @@ impl Replay {
         let Some(packet) = fatal else {
             return Ok(());
         };
-        panic_rest(&mut self.pending, &mut self.ledger)?;
-        self.ledger.enter_panic(packet, true)
+        panic_rest(alloc, &mut self.pending, &mut self.ledger)?;
+        self.ledger.enter_panic(alloc, &packet, true)
     }
 
     // Takes all that is pending.

@@ -1,18 +1,14 @@
-//! Today's receiver on one thread: the blocks of its source, one call, the pending packets and the ledger of what came of each block.
+//! The receiver on one thread: the blocks of its source, one call, the pending packets, and a run of the lines of a script from
+//! nothing to a lawful ledger. It makes no text.
 #![tactic(auto)]
 
 mod blocks;
 mod call;
 mod execute;
-mod image;
-mod laws;
-mod ledger;
 mod pending;
+mod run;
 
 pub use blocks::Blocks;
 pub use execute::Replay;
-pub use laws::{a_ledger_tells_one_history, each_block_has_one_fate};
-pub use ledger::{
-    AckState, Call, Ledger, Mark, Outcome, PanicEntry, Reply, Report, Reported, Taken,
-};
-pub use pending::{Packet, Pending};
+pub use pending::Pending;
+pub use run::{Run, run_lines};

@@ -1,23 +1,11 @@
 //! The packets that wait for delivery.
-ghost use Rattle.std.specs.Prelude.{◌≡◌, ◌<◌, ◌≤◌, ◌∷◌, ◌++◌, length, OnOk, OnErr, MatchOption, [], IsTrue, nat_le};
+ghost use Rattle.std.specs.Prelude.{◌≡◌, ◌∷◌, ◌++◌, length, OnOk, OnErr, MatchOption, [], nat_le};
+ghost use Rattle.ghes_call.specs.Packet.{seen_of};
 
-use apei_base::Bytes;
-use cper_block::Malformed;
+use ghes_call::Packet;
 use std::alloc::{AllocError, Global};
 use std::collections::VecDeque;
 use std::marker::Model;
-
-/// A block's image on its way from the call that copied it to its fate.
-#[derive(Debug, Drop)]
-pub struct Packet {
-    /// The position of the source, from 0 on.
-    pub source: u16,
-    /// The number of the block in its source, from 1 on.
-    pub seq: u32,
-    pub bytes: Bytes,
-    /// Why the image is malformed, if it is.
-    pub reason: Option<Malformed>,
-}
 
 /// How many packets may be pending at once.
 const SLOTS: usize = 16;
@@ -29,12 +17,12 @@ pub struct Pending {
 }
 
 impl Model for Pending {
-    ghost use Rattle.std.specs.Prelude.{List};
-    ghost use Rattle.ghes_serial.specs.declared.pending.Packet.{Packet};
+    ghost use Rattle.std.specs.Prelude.{List, map};
+    ghost use Rattle.ghes_call.specs.Packet.{PacketSeen, seen_of};
 
-    ghost Value = { List Packet };
+    ghost Value = { List PacketSeen };
 
-    ghost view = { λ p. p.packets.items };
+    ghost view = { λ p. map seen_of p.packets.items };
 }
 
 impl Pending {
@@ -54,7 +42,7 @@ impl Pending {
     }
 
     pub fn push(&mut self, packet: Packet) -> Result<(), AllocError>
-        ensures ok { OnOk result (self.new ≡ self.old ++ packet ∷ []) }
+        ensures ok { OnOk result (self.new ≡ self.old ++ seen_of packet ∷ []) }
         ensures err { OnErr result (self.new ≡ self.old) }
     {
         self.packets.push_back(packet)?;
@@ -63,7 +51,7 @@ impl Pending {
 
     /// Takes the oldest packet.
     pub fn take_first(&mut self) -> Option<Packet>
-        ensures { MatchOption result ((self.old ≡ []) × (self.new ≡ [])) (λ packet. self.old ≡ packet ∷ self.new) }
+        ensures { MatchOption result ((self.old ≡ []) × (self.new ≡ [])) (λ packet. self.old ≡ seen_of packet ∷ self.new) }
     {
         self.packets.pop_front()
     }

@@ -1,7 +1,0 @@
-use Rattle.std.proofs.Common.{◌≡◌, ◌++◌, take}
-use Rattle.std.specs.List.{flat_map}
-use Rattle.ghes_replay.specs.Text.{taken_text}
-use Rattle.ghes_replay.proofs.text.all_taken_text.Given as goal
-
-abbrev pub invariant-loop-entry : goal.invariant-loop-entry
-invariant-loop-entry l = l.into.items ≡ l.fn.into.items ++ flat_map (taken_text l.id) (take l.entry-index l.taken)

@@ -1,0 +1,7 @@
+use Rattle.std.proofs.Common.{◌≡◌, ◌++◌, take}
+use Rattle.std.specs.List.{flat_map}
+use Rattle.ghes_report.specs.Lines.{call_text}
+use Rattle.ghes_report.proofs.lines.calls_text.Given as goal
+
+abbrev pub invariant-loop-call : goal.invariant-loop-call
+invariant-loop-call l = l.into.items ≡ l.fn.into.items ++ flat_map (call_text l.ids l.reports) (take l.call-index l.calls)

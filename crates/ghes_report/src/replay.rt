@@ -1,0 +1,93 @@
+//! The text of a replay, made of its ledger behind the run.
+ghost use Rattle.std.specs.Prelude.{◌≡◌, ◌++◌, OnOk, OnErr, IfOk};
+ghost use Rattle.std.specs.List.{AllByRecursion};
+ghost use Rattle.ghes_report.specs.Lines.{lines_text};
+ghost use Rattle.ghes_report.specs.Panic.{panic_text};
+ghost use Rattle.ghes_report.specs.Replay.{replay_text};
+ghost use Rattle.ghes_report.specs.Sound.{IsSound, IsSoundTaken, IsSoundEntry};
+ghost use Rattle.ghes_report.specs.Summary.{summary_text};
+
+use crate::lines::append_lines;
+use crate::panic::append_panic;
+use crate::summary::append_summary;
+use ghes_ledger::Ledger;
+use std::alloc::{AllocError, Global};
+
+/// Appends the lines of a replay: of each line of its script in order, and of the end, the calls and then the blocks that it took.
+///
+/// A source is named by its id, the element of `ids` at its position. What is printed without a reason is a well-formed block.
+/// After an error `into` is as it was. Source of the words: own choice.
+pub fn lines_text(
+    alloc: Global,
+    into: &mut Vec<u8>,
+    ledger: &Ledger,
+    ids: &[u16],
+) -> Result<(), AllocError>
+    requires { AllByRecursion IsSoundTaken ledger.now.taken }
+    ensures ok { OnOk result (into.new.items ≡ into.old.items ++ lines_text ids.now ledger.now) }
+    ensures err { OnErr result (into.new.items ≡ into.old.items) }
+{
+    let mut text = Vec::new(alloc);
+    append_lines(alloc, &mut text, ids, ledger)?;
+    into.extend_from_slice(&text)
+}
+
+/// Appends the panic report of a ledger: nothing, where its panic list is empty.
+///
+/// A source is named by its id, the element of `ids` at its position. What is printed without a reason is a well-formed block.
+/// After an error `into` is as it was. Source of the words: own choice.
+pub fn panic_text(
+    alloc: Global,
+    into: &mut Vec<u8>,
+    ledger: &Ledger,
+    ids: &[u16],
+) -> Result<(), AllocError>
+    requires { AllByRecursion IsSoundEntry ledger.now.panic }
+    ensures ok { OnOk result (into.new.items ≡ into.old.items ++ panic_text ids.now ledger.now.panic) }
+    ensures err { OnErr result (into.new.items ≡ into.old.items) }
+{
+    let mut text = Vec::new(alloc);
+    append_panic(alloc, &mut text, ids, ledger.panic())?;
+    into.extend_from_slice(&text)
+}
+
+/// Appends the summary of a ledger: a line for each source with how many blocks it raised, had acknowledged, and what became of
+/// them, and a line for the whole.
+///
+/// `ids`, `raised` and `acknowledged` have an element for each source, in the order of their positions. After an error `into` is as
+/// it was. Source of the words: own choice.
+pub fn summary_text(
+    alloc: Global,
+    into: &mut Vec<u8>,
+    ledger: &Ledger,
+    ids: &[u16],
+    raised: &[u32],
+    acknowledged: &[u32],
+) -> Result<(), AllocError>
+    ensures ok { OnOk result (into.new.items ≡ into.old.items ++ summary_text ids.now raised.now acknowledged.now ledger.now) }
+    ensures err { OnErr result (into.new.items ≡ into.old.items) }
+{
+    let mut text = Vec::new(alloc);
+    append_summary(alloc, &mut text, ids, raised, acknowledged, ledger)?;
+    into.extend_from_slice(&text)
+}
+
+/// The text of a replay: its lines, the panic report, and the summary. It is a function of the ledger, and of the sources' ids and
+/// counts, and is made behind the run.
+#[tactic(auto, unfolding(crate::specs::Replay::replay_text))]
+pub fn replay_text(
+    alloc: Global,
+    ledger: &Ledger,
+    ids: &[u16],
+    raised: &[u32],
+    acknowledged: &[u32],
+) -> Result<Vec<u8>, AllocError>
+    requires { IsSound ledger.now }
+    ensures { IfOk result (λ text. text.items ≡ replay_text ids.now raised.now acknowledged.now ledger.now) }
+{
+    let mut text = Vec::new(alloc);
+    append_lines(alloc, &mut text, ids, ledger)?;
+    append_panic(alloc, &mut text, ids, ledger.panic())?;
+    append_summary(alloc, &mut text, ids, raised, acknowledged, ledger)?;
+    Ok(text)
+}
