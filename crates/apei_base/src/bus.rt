@@ -1,3 +1,4 @@
+//! The memory and the I/O ports of a machine, as a trait.
 ghost use Rattle.std.specs.Prelude.{◌≡◌, ◌<◌, ℕ, ◌+◌, ◌^◌, Option, IfOk, OnErr};
 ghost use Rattle.apei_base.specs.Bus.{Access, Reads, Copies, Cells, Answers, IsOneAccess, CountsFaults, KeepsUnmapped, reach_of, write_of};
 

@@ -1,3 +1,4 @@
+//! Bytes that a contract sees as a list.
 ghost use Rattle.std.specs.Prelude.{◌≡◌, ℕ, List, IfOk};
 
 use std::alloc::{AllocError, Global};

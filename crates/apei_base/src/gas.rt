@@ -1,3 +1,4 @@
+//! The generic address of a table, and the region that it names.
 ghost use Rattle.std.specs.Prelude.{◌≡◌, ◌≤◌, ◌+◌, ◌/◌, ◌^◌, IfOk, IsTrue};
 ghost use Rattle.apei_base.specs.Width.{is_width};
 ghost use Rattle.apei_base.specs.Region.{smallest_width};

@@ -1,3 +1,4 @@
+//! A place that is read or written in one access.
 ghost use Rattle.std.specs.Prelude.{◌≡◌, IsTrue};
 ghost use Rattle.apei_base.specs.Width.{is_width};
 

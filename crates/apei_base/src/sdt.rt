@@ -1,3 +1,4 @@
+//! The header and the checksum that all tables have.
 ghost use Rattle.std.specs.Prelude.{◌≡◌, ◌<◌, ◌↔◌, ℕ, ◌%◌, ◌^◌, sum, length, drop, slice_index, IsOk, IfOk, OnOk};
 ghost use Rattle.std.specs.Result.{result_err};
 

@@ -1,3 +1,4 @@
+//! The error injection table, read whole.
 ghost use Rattle.std.specs.Prelude.{◌≡◌, ◌≢◌, None, Some, IfOk, OnOk, IfErr, option_copied};
 ghost use Rattle.apei_einj.specs.Anchor.{anchor_of};
 ghost use Rattle.apei_einj.specs.Table.{einj_entries, einj_refusal};

@@ -1,3 +1,4 @@
+//! An injection entry: its fields and why it is refused.
 ghost use Rattle.std.specs.Prelude.{◌≡◌, ◌≤◌, length};
 ghost use Rattle.apei_einj.specs.Anchor.{may_anchor};
 ghost use Rattle.apei_einj.specs.Entry.{entry_of, is_injection, reads_register, writes_register};

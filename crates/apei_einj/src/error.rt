@@ -1,3 +1,4 @@
+//! Why an EINJ is refused.
 use apei_base::{GasError, SdtError};
 use std::alloc::{AllocError, AllocFailed};
 use std::error::Error;

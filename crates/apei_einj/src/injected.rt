@@ -1,3 +1,4 @@
+//! How an injection ends.
 use crate::RunError;
 use apei_base::BusFault;
 use std::error::Error;

@@ -1,3 +1,4 @@
+//! What is to be injected, and where.
 ghost use Rattle.std.specs.Prelude.{◌≡◌, ◌<◌, ◌^◌, IsTrue};
 ghost use Rattle.apei_einj.specs.Request.{is_error_type, has_place, flags_of, processor_of, address_of, mask_of, pcie_of};
 

@@ -1,3 +1,4 @@
+//! Why a HEST is refused.
 use apei_base::{GasError, SdtError};
 use std::alloc::{AllocError, AllocFailed};
 use std::error::Error;

@@ -1,3 +1,4 @@
+//! The hardware error source table, read whole.
 ghost use Rattle.std.specs.Prelude.{◌≡◌, ◌≢◌, ◌≤◌, ◌<◌, ◌^◌, [], length, drop, Ok, Err, IfOk, IfErr};
 ghost use Rattle.apei_hest.specs.Admitted.{IsWalkedWhole, StopsWith};
 ghost use Rattle.apei_hest.specs.declared.error.HestError.TheVariants.{OutOfMemory};

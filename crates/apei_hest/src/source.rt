@@ -1,3 +1,4 @@
+//! The structure of an error source.
 ghost use Rattle.std.specs.Prelude.{◌≡◌, ◌<◌, ◌≤◌, ◌^◌, length};
 ghost use Rattle.apei_hest.specs.Source.{source_of, limit_of};
 ghost use Rattle.apei_hest.specs.Structure.{IsStructure};

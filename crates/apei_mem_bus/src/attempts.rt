@@ -1,3 +1,4 @@
+//! The accesses of a bus, numbered, some of which are to fail.
 ghost use Rattle.std.specs.Prelude.{◌≡◌, ◌↔◌, ◌+◌, IfOk, OnOk, OnErr, IsErr, IsTrue};
 ghost use Rattle.fault_plan.specs.Plan.{with_call, with_failing, fails_next, one_if};
 ghost use Rattle.apei_mem_bus.specs.Failures.{AreDue};

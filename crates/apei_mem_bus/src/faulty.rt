@@ -1,3 +1,4 @@
+//! A bus over another that fails by plan.
 ghost use Rattle.std.specs.Prelude.{◌≡◌, ◌<◌, ◌+◌, ◌^◌, is_err, IfOk, OnErr};
 ghost use Rattle.apei_base.specs.Bus.{Reads, Copies, IsOneAccess, CountsFaults, reach_of, write_of};
 ghost use Rattle.apei_mem_bus.specs.Faulty.{faults_of, state_of, PassesOn, IsInnerStep};

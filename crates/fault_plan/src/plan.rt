@@ -1,3 +1,4 @@
+//! Which calls of a simulated device are to fail.
 ghost use Rattle.std.specs.Prelude.{◌≡◌, ◌≤◌, ◌+◌, [], IfOk, OnOk, OnErr};
 ghost use Rattle.fault_plan.specs.Plan.{with_numbers};
 

@@ -1,3 +1,4 @@
+//! Why a script is refused.
 use std::alloc::{AllocError, AllocFailed};
 use std::fmt;
 

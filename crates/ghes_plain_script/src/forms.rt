@@ -1,3 +1,4 @@
+//! How the lines of one source are spelled.
 ghost use Rattle.std.specs.Prelude.{◌≡◌, IfOk};
 ghost use Rattle.std.specs.String.{string_bytes};
 ghost use Rattle.ghes_plain_script.specs.Spelling.{nmi_line, raise_front};

@@ -1,3 +1,4 @@
+//! What a line of a script asks for.
 use apei_base::Bytes;
 
 /// An executed line of a script.

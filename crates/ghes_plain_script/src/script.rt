@@ -1,3 +1,4 @@
+//! Reads a script line by line.
 ghost use Rattle.std.specs.Prelude.{◌≡◌, ◌<◌, ◌≤◌, ◌^◌, ◌-◌, ◌↔◌, length, IfOk, IfErr, IsTrue, MatchOption, vec_len};
 ghost use Rattle.ghes_plain_script.specs.Spelling.{is_block, IsWord};
 ghost use Rattle.ghes_plain_script.specs.Script.{IsRaise, IsNoRaise, IsFirstLine, IsScript};
