@@ -1,5 +1,5 @@
 -- Each access of a bus in memory has one outcome.
-use Rattle.std.proofs.Common.{refl, sym, ap, ◌∙◌}
+use Rattle.std.proofs.Common.{sym, ap, ◌∙◌}
 use Rattle.apei_base.specs.Bus.{bytes_at}
 use Rattle.apei_base.specs.Determined.{IsDetermined}
 use Rattle.apei_base.specs.declared.region.Space.TheVariants.{Memory}

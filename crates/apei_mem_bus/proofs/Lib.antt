@@ -1,3 +1,4 @@
+pub mod ApartLemmas
 pub mod CellLemmas
 pub mod DeterminedLemmas
 pub mod ShownLemmas

@@ -1,28 +1,28 @@
 //! The smallest memory of one source that is a `Firmware`.
-ghost use Rattle.std.specs.Prelude.{◌≡◌, ◌<◌, ◌&&◌, ◌==◌, ◌%◌, ◌^◌, ◌+◌, ℕ, Some, None, is_some, unwrap_or, option_copied, vec_len, OnSome, length, slice_index, take, drop, IsTrue, IfOk};
+ghost use Rattle.std.specs.Prelude.{◌≡◌, ◌<◌, ◌&&◌, ◌==◌, ◌%◌, ◌^◌, ◌+◌, ℕ, Some, None, is_some, option_map, unwrap_or, option_copied, vec_len, OnSome, length, slice_index, take, drop, IsTrue, IfOk};
 ghost use Rattle.std.specs.Bool.{OnTrue};
 ghost use Rattle.std.proofs.Props.{props};
 ghost use Rattle.apei_base.specs.Bus.{reach_of, same_reach};
-ghost use Rattle.apei_base.specs.Firmware.{Seen, standing, block_status, status_value, shown};
-ghost use Rattle.apei_mem_bus.specs.OneSource.{seen_by_parts, raised_prop, IsWhole, IsPlainStep};
+ghost use Rattle.apei_base.specs.Firmware.{Seen, is_ack, standing, block_status, status_value, shown};
+ghost use Rattle.apei_mem_bus.specs.OneSource.{seen_by_parts, raised_prop, fits_prop, IsWhole, IsPlainStep};
 ghost use Rattle.apei_base.specs.Width.{is_width};
 
 use apei_base::{Bus, BusFault, Bytes, Firmware, Region, Space};
 
-/// The memory of one source of version 2, for tests of its receivers. It fails at no access and tells no cells.
+/// The memory of one source of either version, for tests of its receivers. It fails at no access and tells no cells.
 ///
 /// Source: own choice.
 #[derive(Drop)]
 pub struct OneSource {
     /// The status address register.
     pub status: Region,
-    /// The read ack register.
-    pub ack: Region,
+    /// The read ack register, none where the source is of version 1.
+    pub ack: Option<Region>,
     /// The address of the area.
     pub area: u64,
     /// The length of the area in bytes.
     pub room: u32,
-    /// What the read ack register holds.
+    /// What the read ack register holds, 0 where there is none.
     pub cell: u64,
     /// All blocks that were made, in order.
     pub made: Vec<Bytes>,
@@ -30,7 +30,7 @@ pub struct OneSource {
     pub acknowledged: usize,
     /// Whether the acknowledgement of a cleared block is awaited.
     pub waits: bool,
-    pub ghost is: { IsWhole (seen_by_parts (reach_of status) (reach_of ack) area room cell made.items acknowledged waits) } by { Prim.hlevel (props, raised_prop) },
+    pub ghost is: { IsWhole (seen_by_parts (reach_of status) (option_map reach_of ack) area room cell made.items acknowledged waits) } by { Prim.hlevel (props, raised_prop, fits_prop) },
 }
 
 // The bytes of a block from a place on, and zeros behind it.
@@ -69,6 +69,16 @@ impl OneSource {
         at.is_same(&Region::memory(self.area, 32)) && value == 0 && self.standing().is_some()
     }
 
+    // This is the read ack register.
+    fn is_ack(&self, at: &Region) -> bool
+        ensures { result ≡ is_ack (⟦<OneSource as Bus>⟧.state self.now).layout (reach_of at.now) }
+    {
+        match &self.ack {
+            Some(ack) => ack.is_same(at),
+            None => false,
+        }
+    }
+
     // Where the area is, once a block has stood.
     fn status_value(&self) -> u64
         ensures value { result ≡ status_value (⟦<OneSource as Bus>⟧.state self.now) }
@@ -87,7 +97,7 @@ impl Bus for OneSource {
 
     ghost State = { Seen };
 
-    ghost state = { λ s. seen_by_parts (reach_of s.status) (reach_of s.ack) s.area s.room s.cell s.made.items s.acknowledged s.waits };
+    ghost state = { λ s. seen_by_parts (reach_of s.status) (option_map reach_of s.ack) s.area s.room s.cell s.made.items s.acknowledged s.waits };
 
     ghost step = { IsPlainStep };
 
@@ -99,11 +109,11 @@ impl Bus for OneSource {
 
     ghost unmapped = { λ before after access step. tt };
 
-    #[tactic(auto, unfolding(apei_base::specs::Firmware::after_access, apei_base::specs::Firmware::IsAnswered))]
+    #[tactic(auto, using(crate::proofs::ApartLemmas::apart_from_status), unfolding(apei_base::specs::Firmware::after_access, apei_base::specs::Firmware::IsAnswered))]
     fn read(&mut self, at: &Region) -> Result<u64, BusFault> {
         if self.status.is_same(at) {
             Ok(self.status_value())
-        } else if self.ack.is_same(at) {
+        } else if self.is_ack(at) {
             Ok(self.cell)
         } else {
             Ok(0)
@@ -115,8 +125,8 @@ impl Bus for OneSource {
         let value = at.low_bits(value);
         if self.clears(at, value) {
             self.acknowledged += 1;
-            self.waits = true;
-        } else if self.ack.is_same(at) {
+            self.waits = self.ack.is_some();
+        } else if self.is_ack(at) {
             self.cell = value;
             self.waits = false;
         }

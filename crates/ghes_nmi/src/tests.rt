@@ -52,7 +52,7 @@ fn source(alloc: Global) -> Result<OneSource, AllocError>
     let made = vec![in alloc; Bytes(block)]?;
     Ok(OneSource {
         status: Region::memory(0x1000, 64),
-        ack: Region::memory(0x1008, 16),
+        ack: Some(Region::memory(0x1008, 16)),
         area: 0x2000,
         room: 4096,
         cell: 0xffff,
@@ -74,11 +74,14 @@ fn one_call<L: Ledger>(
     requires some { 0 < blank.parts }
 {
     let source = source(alloc)?;
+    let Some(register) = source.ack else {
+        return Err(AllocError);
+    };
     let receive = Receive {
         status: source.status,
         limit: 4096,
         ack: Some(AckRule {
-            register: source.ack,
+            register,
             bit_offset: 4,
             preserve: 0xf0,
             write: 0x0a,

@@ -46,13 +46,26 @@ fn an_access_fails_where_the_inner_one_does(rt: HostRuntime) -> Result<(), Fail>
     Ok(())
 }
 
-// Two blocks of 20 bytes, of which none is acknowledged.
-fn two_blocks(alloc: Global) -> Result<OneSource, AllocError> {
+// The two registers of the sources here.
+const STATUS: Region = Region {
+    space: Space::Memory,
+    address: 0x1000,
+    width: 64,
+};
+
+const ACK: Region = Region {
+    space: Space::Memory,
+    address: 0x1008,
+    width: 64,
+};
+
+// A source of either version with two blocks of 20 bytes, of which none is acknowledged.
+fn two_blocks(alloc: Global, version_2: bool) -> Result<OneSource, AllocError> {
     let first = Bytes::copy(alloc, &[1; 20])?;
     let second = Bytes::copy(alloc, &[2; 20])?;
     Ok(OneSource {
-        status: Region::memory(0x1000, 64),
-        ack: Region::memory(0x1008, 64),
+        status: STATUS,
+        ack: if version_2 { Some(ACK) } else { None },
         area: 0x2000,
         room: 64,
         cell: 0,
@@ -65,16 +78,15 @@ fn two_blocks(alloc: Global) -> Result<OneSource, AllocError> {
 // Where the area is, the first bytes there, and then the clear and the acknowledgement.
 fn receive<P: Firmware>(port: &mut P) -> Result<(u64, [u8; 3]), BusFault> {
     let mut bytes = [0xee; 3];
-    let area = port.read(&Region::memory(0x1000, 64))?;
+    let area = port.read(&STATUS)?;
     port.copy(area, 18, &mut bytes)?;
     port.write(&Region::memory(area, 32), 0)?;
-    port.write(&Region::memory(0x1008, 64), 1)?;
+    port.write(&ACK, 1)?;
     Ok((area, bytes))
 }
 
 #[test]
 fn a_firmware_under_faults_gives_each_block_in_turn(rt: HostRuntime) -> Result<(), Fail> {
-    let mut port = Faulty::new(rt.alloc(), two_blocks(rt.alloc())?, &[2])?;
     let answers = [
         // The copy fails, and nothing is lost.
         Err(BusFault),
@@ -82,8 +94,15 @@ fn a_firmware_under_faults_gives_each_block_in_turn(rt: HostRuntime) -> Result<(
         Ok((0x2000, [2, 2, 0])),
         Ok((0x2000, [0, 0, 0])),
     ];
-    for answer in answers {
-        assert_eq!(rt; receive(&mut port), answer);
+    for version_2 in [true, false] {
+        let mut port = Faulty::new(rt.alloc(), two_blocks(rt.alloc(), version_2)?, &[2])?;
+        for answer in &answers {
+            assert_eq!(rt;
+                receive(&mut port),
+                *answer,
+                "with a read ack register: {version_2}"
+            );
+        }
     }
     Ok(())
 }
@@ -91,12 +110,12 @@ fn a_firmware_under_faults_gives_each_block_in_turn(rt: HostRuntime) -> Result<(
 #[test]
 fn each_access_of_a_receiver_is_one(rt: HostRuntime) -> Result<(), Fail> {
     let alloc = rt.alloc();
-    let status = Region::memory(0x1000, 64);
-    let ack = Region::memory(0x1008, 64);
+    let status = STATUS;
+    let ack = ACK;
     let block = Bytes::copy(alloc, &[1; 20])?;
     let source = OneSource {
         status,
-        ack,
+        ack: Some(ack),
         area: 0x2000,
         room: 64,
         cell: 0,
