@@ -31,46 +31,52 @@ const FULL: &str = "0a000102030405060708090a0b0c0d0e0f101112\
     9c9d9e9fa0a1a2a3a4a5a6a7a8a9aaabacadaeafb0b1b2b3b4b5b6b7b8b9babb\
     01200003bcbdbebfc0c1c2c3c4c5c6c7c8c9cacbcccdcecfd0d1d2d3";
 
-// The sample table of this count, structures and checksum.
-fn sample_table(alloc: Global, count: u32, structures: &str, checksum: u8) -> Result<Hest, Fail> {
+// What a table of this count and these structures gives, with the checksum of the sample.
+fn read_sample(alloc: Global, count: u32, structures: &str, checksum: u8) -> Result<Hest, Fail> {
     let mut bytes = table(alloc, count, &hex::decode(alloc, structures)?)?;
     put(&mut bytes, 9, &[checksum]);
     Ok(Hest::read(alloc, &bytes)?)
 }
 
-#[test]
-fn a_sample_of_one_source_gives_it(rt: HostRuntime) -> Result<(), Fail> {
-    let hest = sample_table(rt.alloc(), 1, SOURCE, 0x40)?;
-    let want = Source::Ghes(sample(1, 40, 0x7f00_0000, None));
-    assert_eq!(rt; hest.sources(), [want].as_slice());
-
-    let hest = sample_table(rt.alloc(), 1, SOURCE_2, 0x6c)?;
-    let want = Source::Ghes(sample(2, 40, 0x7f00_0008, Some(SAMPLE_ACK)));
-    assert_eq!(rt; hest.sources(), [want].as_slice(), "of version 2");
-    Ok(())
+// What the sample gives with a byte where it says whether it is enabled.
+fn enabled_by(alloc: Global, byte: u8) -> Result<Hest, Fail> {
+    let mut structure = hex::decode(alloc, SOURCE)?;
+    put(&mut structure, ENABLED, &[byte]);
+    Ok(Hest::read(alloc, &table(alloc, 1, &structure)?)?)
 }
 
 #[test]
-fn a_sample_of_two_sources_gives_them_in_order(rt: HostRuntime) -> Result<(), Fail> {
-    let mut structures = String::new(rt.alloc());
-    structures.push_str(SOURCE)?;
-    structures.push_str(SOURCE_2)?;
-    let hest = sample_table(rt.alloc(), 2, structures.as_str(), 0x2d)?;
-    let want = [
-        Source::Ghes(sample(1, 40, 0x7f00_0000, None)),
-        Source::Ghes(sample(2, 104, 0x7f00_0008, Some(SAMPLE_ACK))),
-    ];
-    assert_eq!(rt; hest.sources(), want.as_slice());
-    Ok(())
-}
-
-#[test]
-fn each_field_is_read_at_its_own_offset(rt: HostRuntime) -> Result<(), Fail> {
+fn each_field_of_a_source_is_read_at_its_own_offset(rt: HostRuntime) -> Result<(), Fail> {
     let alloc = rt.alloc();
-    let bytes = table(alloc, 2, &hex::decode(alloc, FULL)?)?;
-    let hest = Hest::read(alloc, &bytes)?;
+    let first = Source::Ghes(sample(1, 40, 0x7f00_0000, None));
+    let hest = read_sample(alloc, 1, SOURCE, 0x40)?;
+    assert_eq!(rt; hest.sources(), [first].as_slice(), "of version 1");
+
+    let want = Source::Ghes(sample(2, 40, 0x7f00_0008, Some(SAMPLE_ACK)));
+    let hest = read_sample(alloc, 1, SOURCE_2, 0x6c)?;
+    assert_eq!(rt; hest.sources(), [want].as_slice(), "of version 2");
+
+    let second = Source::Ghes(sample(2, 104, 0x7f00_0008, Some(SAMPLE_ACK)));
+    let mut both = SOURCE.to_string(alloc)?;
+    both.push_str(SOURCE_2)?;
+    let hest = read_sample(alloc, 2, both.as_str(), 0x2d)?;
+    assert_eq!(rt; hest.sources(), [first, second].as_slice(), "both");
+
+    let hest = Hest::read(alloc, &table(alloc, 2, &hex::decode(alloc, FULL)?)?)?;
     let want = [Source::Ghes(full_first()), Source::Ghes(full_second())];
-    assert_eq!(rt; hest.sources(), want.as_slice());
+    assert_eq!(rt; hest.sources(), want.as_slice(), "of different values");
+
+    // Any byte but 0 says that a source is enabled.
+    for (byte, enabled) in [(0u8, false), (1, true), (2, true), (255, true)] {
+        let mut want = sample(1, 40, 0x7f00_0000, None);
+        want.enabled = enabled;
+        let hest = enabled_by(alloc, byte)?;
+        assert_eq!(rt;
+            hest.sources(),
+            [Source::Ghes(want)].as_slice(),
+            "byte {byte}"
+        );
+    }
     Ok(())
 }
 
@@ -213,22 +219,5 @@ fn a_servers_table_gives_seven_sources(rt: HostRuntime) -> Result<(), Fail> {
         Source::Ghes(last),
     ];
     assert_eq!(rt; hest.sources(), want.as_slice());
-    Ok(())
-}
-
-#[test]
-fn a_source_is_enabled_by_any_byte_but_0(rt: HostRuntime) -> Result<(), Fail> {
-    for (byte, enabled) in [(0u8, false), (1, true), (2, true), (255, true)] {
-        let mut structure = hex::decode(rt.alloc(), SOURCE)?;
-        put(&mut structure, ENABLED, &[byte]);
-        let hest = Hest::read(rt.alloc(), &table(rt.alloc(), 1, &structure)?)?;
-        let mut want = sample(1, 40, 0x7f00_0000, None);
-        want.enabled = enabled;
-        assert_eq!(rt;
-            hest.sources(),
-            [Source::Ghes(want)].as_slice(),
-            "byte {byte}"
-        );
-    }
     Ok(())
 }

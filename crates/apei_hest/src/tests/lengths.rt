@@ -1,6 +1,7 @@
 // How long a structure of each type is.
 use super::{blank, put, table, told_of};
 use crate::{Hest, Source};
+use std::alloc::Global;
 use std::test::Fail;
 
 // A type, the offset of its bank count, the count, and the length.
@@ -16,96 +17,69 @@ const BANKED: [(u8, usize, u8, usize); 9] = [
     (11, 44, 255, 7188),
 ];
 
-// A type and its length.
-const FIXED: [(u8, usize); 6] = [(2, 20), (6, 48), (7, 44), (8, 56), (9, 64), (10, 92)];
+const TRUNCATED: &str = "2 truncated at 40";
+
+// A type, how many bytes of zeros the structure has behind it, and what is told.
+#[rattlefmt::skip]
+const TOLD: [(u8, usize, &str); 28] = [
+    // Whole, and without the last byte.
+    (2, 20, "accepted"), (2, 19, TRUNCATED),
+    (6, 48, "accepted"), (6, 47, TRUNCATED),
+    (7, 44, "accepted"), (7, 43, TRUNCATED),
+    (8, 56, "accepted"), (8, 55, TRUNCATED),
+    (9, 64, "accepted"), (9, 63, TRUNCATED),
+    (10, 92, "accepted"), (10, 91, TRUNCATED),
+    // Cut off before the bank count, and behind it.
+    (0, 32, TRUNCATED), (0, 33, TRUNCATED),
+    (1, 44, TRUNCATED), (1, 45, TRUNCATED),
+    (11, 44, TRUNCATED), (11, 45, TRUNCATED),
+    // Types without a length.
+    (3, 4, "3 source type 3 at 40"), (3, 64, "3 source type 3 at 40"),
+    (4, 4, "3 source type 4 at 40"), (4, 64, "3 source type 4 at 40"),
+    (5, 4, "3 source type 5 at 40"), (5, 64, "3 source type 5 at 40"),
+    (12, 4, "3 source type 12 at 40"), (12, 64, "3 source type 12 at 40"),
+    (255, 4, "3 source type 255 at 40"), (255, 64, "3 source type 255 at 40"),
+];
+
+// A structure of so many bytes with so many banks.
+fn banked(
+    alloc: Global,
+    (kind, offset, banks, _): (u8, usize, u8, usize),
+    length: usize,
+) -> Result<Vec<u8>, Fail> {
+    let mut structure = blank(alloc, kind, 7, length)?;
+    put(&mut structure, offset, &[banks]);
+    Ok(structure)
+}
 
 #[test]
-fn a_structure_with_banks_is_as_long_as_they_are(rt: HostRuntime) -> Result<(), Fail> {
-    for (kind, offset, banks, length) in &BANKED {
-        let mut structure = blank(rt.alloc(), *kind, 7, *length)?;
-        put(&mut structure, *offset, &[*banks]);
-        let bytes = table(rt.alloc(), 1, &structure)?;
+fn a_structure_is_as_long_as_its_type_and_its_banks_say(rt: HostRuntime) -> Result<(), Fail> {
+    for row in BANKED {
+        let (kind, _, _, length) = row;
+        let bytes = table(rt.alloc(), 1, &banked(rt.alloc(), row, length)?)?;
         let hest = Hest::read(rt.alloc(), &bytes)?;
         let want = Source::Skipped {
-            kind: u16::from(*kind),
+            kind: u16::from(kind),
             id: 7,
             at: 40,
-            length: u32::try_from(*length).unwrap_or(0),
+            length: u32::try_from(length).unwrap_or(0),
         };
+        assert_eq!(rt; hest.sources(), [want].as_slice(), "{row:?}");
+
+        let cut = banked(rt.alloc(), row, length.saturating_sub(1))?;
         assert_eq!(rt;
-            hest.sources(),
-            [want].as_slice(),
-            "type {kind}, banks {banks}"
+            told_of(rt.alloc(), 1, &cut)?.as_str(),
+            TRUNCATED,
+            "{row:?} cut"
         );
     }
-    Ok(())
-}
-
-#[test]
-fn a_structure_is_cut_off_by_one_byte_fewer(rt: HostRuntime) -> Result<(), Fail> {
-    for (kind, length) in &FIXED {
-        let structure = blank(rt.alloc(), *kind, 7, *length)?;
-        let text = told_of(rt.alloc(), 1, &structure)?;
-        assert_eq!(rt; text.as_str(), "accepted", "type {kind}");
-
-        let structure = blank(rt.alloc(), *kind, 7, length.saturating_sub(1))?;
-        let text = told_of(rt.alloc(), 1, &structure)?;
-        assert_eq!(rt; text.as_str(), "2 truncated at 40", "type {kind} cut");
-    }
-    Ok(())
-}
-
-#[test]
-fn a_structure_with_banks_is_cut_off_by_one_byte_fewer(rt: HostRuntime) -> Result<(), Fail> {
-    for (kind, offset, banks, length) in &BANKED {
-        let mut structure = blank(rt.alloc(), *kind, 7, length.saturating_sub(1))?;
-        put(&mut structure, *offset, &[*banks]);
-        let text = told_of(rt.alloc(), 1, &structure)?;
-        assert_eq!(rt;
-            text.as_str(),
-            "2 truncated at 40",
-            "type {kind}, banks {banks} cut"
-        );
-    }
-    Ok(())
-}
-
-#[test]
-fn bytes_that_end_before_the_bank_count_are_cut_off(rt: HostRuntime) -> Result<(), Fail> {
-    for (kind, length) in [
-        (0u8, 32usize),
-        (0, 33),
-        (1, 44),
-        (1, 45),
-        (11, 44),
-        (11, 45),
-    ] {
+    for (kind, length, want) in TOLD {
         let structure = blank(rt.alloc(), kind, 7, length)?;
-        let text = told_of(rt.alloc(), 1, &structure)?;
         assert_eq!(rt;
-            text.as_str(),
-            "2 truncated at 40",
-            "type {kind} in {length}"
+            told_of(rt.alloc(), 1, &structure)?.as_str(),
+            want,
+            "type {kind} in {length} bytes"
         );
-    }
-    Ok(())
-}
-
-#[test]
-fn types_without_a_length_are_refused_by_name(rt: HostRuntime) -> Result<(), Fail> {
-    let cases = [
-        (3u8, "3 source type 3 at 40"),
-        (4, "3 source type 4 at 40"),
-        (5, "3 source type 5 at 40"),
-        (12, "3 source type 12 at 40"),
-        (255, "3 source type 255 at 40"),
-    ];
-    for (kind, want) in cases {
-        for length in [4usize, 64] {
-            let structure = blank(rt.alloc(), kind, 7, length)?;
-            let text = told_of(rt.alloc(), 1, &structure)?;
-            assert_eq!(rt; text.as_str(), want, "in {length} bytes");
-        }
     }
     Ok(())
 }

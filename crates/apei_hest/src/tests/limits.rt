@@ -18,41 +18,36 @@ fn sources(alloc: Global, count: u8, off: u8) -> Result<Vec<u8>, Fail> {
     Ok(structures)
 }
 
-#[test]
-fn a_65th_enabled_source_is_too_many(rt: HostRuntime) -> Result<(), Fail> {
-    for (count, off, want) in [
-        (64u8, 255u8, "accepted"),
-        (65, 255, "8 too many"),
-        (65, 0, "accepted"),
-        (65, 64, "accepted"),
-        (66, 30, "8 too many"),
-    ] {
-        let structures = sources(rt.alloc(), count, off)?;
-        let text = told_of(rt.alloc(), u32::from(count), &structures)?;
-        assert_eq!(rt; text.as_str(), want, "{count} without {off}");
-    }
-    Ok(())
-}
+// How many sources there are, which one is not enabled, the 65th source's byte that is changed, and what is told. Its
+// first byte is 9 unchanged.
+#[rattlefmt::skip]
+const ENABLED_SOURCES: [(u8, u8, (usize, u8), &str); 8] = [
+    (64, 255, (0, 9), "accepted"),
+    (65, 255, (0, 9), "8 too many"),
+    (65, 0, (0, 9), "accepted"),
+    (65, 64, (0, 9), "accepted"),
+    (66, 30, (0, 9), "8 too many"),
+    // It is too many before its register, and behind its id and its type.
+    (65, 255, (STATUS, 2), "8 too many"),
+    (65, 255, (ID, 3), "5 source 3 twice"),
+    (65, 255, (0, 12), "3 source type 12 at 4136"),
+];
 
 #[test]
-fn a_65th_enabled_source_is_too_many_before_its_register_and_behind_its_id(
+fn a_65th_enabled_source_is_too_many_and_a_table_of_1_mib_is_not(
     rt: HostRuntime,
 ) -> Result<(), Fail> {
-    for (offset, byte, want) in [
-        (STATUS, 2u8, "8 too many"),
-        (ID, 3, "5 source 3 twice"),
-        (0, 12, "3 source type 12 at 4136"),
-    ] {
-        let mut structures = sources(rt.alloc(), 65, 255)?;
+    for (count, off, (offset, byte), want) in ENABLED_SOURCES {
+        let mut structures = sources(rt.alloc(), count, off)?;
         put(&mut structures, 64 * 64 + offset, &[byte]);
-        let text = told_of(rt.alloc(), 65, &structures)?;
-        assert_eq!(rt; text.as_str(), want, "{byte} at {offset}");
+        let text = told_of(rt.alloc(), u32::from(count), &structures)?;
+        assert_eq!(rt;
+            text.as_str(),
+            want,
+            "{count} without {off}, {byte} at {offset}"
+        );
     }
-    Ok(())
-}
-
-#[test]
-fn a_table_of_1_mib_is_read_at_once(rt: HostRuntime) -> Result<(), Fail> {
+    // Tables of 1 MiB.
     let structure = blank(rt.alloc(), 2, 0, 20)?;
     let mut structures = Vec::new(rt.alloc());
     for _ in 0..52_426u32 {

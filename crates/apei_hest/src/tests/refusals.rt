@@ -5,6 +5,7 @@ use super::{
 };
 use crate::HestError;
 use apei_base::{GasError, SdtError};
+use std::alloc::Global;
 use std::test::Fail;
 
 // What is changed in the sample of one source: two bytes at an offset, and the checksum; and what is told then.
@@ -30,206 +31,143 @@ const CHANGED: [(&str, usize, [u8; 2], u8, &str); 7] = [
     ),
 ];
 
-#[test]
-fn a_changed_sample_is_refused_in_its_words(rt: HostRuntime) -> Result<(), Fail> {
-    let structure = hex::decode(rt.alloc(), SOURCE)?;
-    for (name, offset, value, checksum, want) in &CHANGED {
-        let mut bytes = table(rt.alloc(), 1, &structure)?;
-        put(&mut bytes, *offset, value);
-        put(&mut bytes, 9, &[*checksum]);
-        let text = told(rt.alloc(), &bytes)?;
-        assert_eq!(rt; text.as_str(), *want, "{name}");
-    }
-    Ok(())
-}
+// How long a table is that states no structure, and what is told.
+const SHORT: [(usize, &str); 5] = [
+    (36, "2 truncated at 36"),
+    (37, "2 truncated at 36"),
+    (38, "2 truncated at 36"),
+    (39, "2 truncated at 36"),
+    (40, "accepted"),
+];
 
 #[test]
-fn a_sample_that_is_cut_is_short_or_has_another_length(rt: HostRuntime) -> Result<(), Fail> {
-    let structure = hex::decode(rt.alloc(), SOURCE)?;
-    let bytes = table(rt.alloc(), 1, &structure)?;
+fn a_table_is_refused_in_the_words_of_its_first_reason(rt: HostRuntime) -> Result<(), Fail> {
+    let alloc = rt.alloc();
+    let structure = hex::decode(alloc, SOURCE)?;
+    for (name, offset, value, checksum, want) in &CHANGED {
+        let mut bytes = table(alloc, 1, &structure)?;
+        put(&mut bytes, *offset, value);
+        put(&mut bytes, 9, &[*checksum]);
+        assert_eq!(rt; told(alloc, &bytes)?.as_str(), *want, "{name}");
+    }
+    // The sample cut off.
+    let bytes = table(alloc, 1, &structure)?;
     for n in 0..104usize {
         let want = if n < 36 {
             "1 table: 1 short"
         } else {
             "1 table: 3 length"
         };
-        let text = told(rt.alloc(), bytes.get(..n).unwrap_or(&[]))?;
+        let text = told(alloc, bytes.get(..n).unwrap_or(&[]))?;
         assert_eq!(rt; text.as_str(), want, "{n} bytes");
     }
-    Ok(())
-}
-
-#[test]
-fn a_sample_without_its_last_byte_is_truncated(rt: HostRuntime) -> Result<(), Fail> {
-    let structure = hex::decode(rt.alloc(), SOURCE)?;
-    let mut bytes = table(rt.alloc(), 1, structure.get(..63).unwrap_or(&[]))?;
+    // The sample without its last byte, and with the length that it has then.
+    let mut bytes = table(alloc, 1, structure.get(..63).unwrap_or(&[]))?;
     put(&mut bytes, 4, &[103]);
     put(&mut bytes, 9, &[0x41]);
-    let text = told(rt.alloc(), &bytes)?;
-    assert_eq!(rt; text.as_str(), "2 truncated at 40");
-    Ok(())
-}
-
-#[test]
-fn a_table_without_room_for_its_count_is_truncated_at_36(rt: HostRuntime) -> Result<(), Fail> {
-    for (length, want) in [
-        (36usize, "2 truncated at 36"),
-        (37, "2 truncated at 36"),
-        (38, "2 truncated at 36"),
-        (39, "2 truncated at 36"),
-        (40, "accepted"),
-    ] {
-        let mut bytes = table(rt.alloc(), 0, &[])?;
+    assert_eq!(rt; told(alloc, &bytes)?.as_str(), "2 truncated at 40");
+    for (length, want) in SHORT {
+        let mut bytes = table(alloc, 0, &[])?;
         bytes.truncate(length);
         mend(&mut bytes);
-        let text = told(rt.alloc(), &bytes)?;
-        assert_eq!(rt; text.as_str(), want, "{length} bytes");
+        assert_eq!(rt; told(alloc, &bytes)?.as_str(), want, "{length} bytes");
     }
     Ok(())
+}
+
+// What stands behind the sample of one source, and what is told.
+#[rattlefmt::skip]
+const BEHIND: [(&str, &str); 7] = [
+    ("0c", "2 truncated at 104"),
+    ("0c0000", "2 truncated at 104"),
+    ("0c000000", "3 source type 12 at 104"),
+    ("02000000", "2 truncated at 104"),
+    ("02000100000000000000000000000000000000", "2 truncated at 104"),
+    ("0200010000000000000000000000000000000000", "accepted"),
+    ("020001000000000000000000000000000000000000", "2 truncated at 124"),
+];
+
+// The structures of both samples with one id, each enabled or not.
+fn one_id(alloc: Global, (first, second): (u8, u8)) -> Result<Vec<u8>, Fail> {
+    let mut structures = hex::decode(alloc, SOURCE)?;
+    let mut other = hex::decode(alloc, SOURCE_2)?;
+    put(&mut structures, ENABLED, &[first]);
+    put(&mut other, ENABLED, &[second]);
+    put(&mut other, ID, &[1]);
+    structures.extend_from_slice(&other)?;
+    Ok(structures)
 }
 
 #[test]
-fn a_rest_behind_a_structure_is_truncated_where_it_begins(rt: HostRuntime) -> Result<(), Fail> {
-    for (rest, want) in [
-        ("0c", "2 truncated at 104"),
-        ("0c0000", "2 truncated at 104"),
-        ("0c000000", "3 source type 12 at 104"),
-        ("02000000", "2 truncated at 104"),
-        (
-            "02000100000000000000000000000000000000",
-            "2 truncated at 104",
-        ),
-        ("0200010000000000000000000000000000000000", "accepted"),
-        (
-            "020001000000000000000000000000000000000000",
-            "2 truncated at 124",
-        ),
-    ] {
-        let mut structures = hex::decode(rt.alloc(), SOURCE)?;
-        structures.extend_from_slice(&hex::decode(rt.alloc(), rest)?)?;
-        let text = told_of(rt.alloc(), 2, &structures)?;
-        assert_eq!(rt; text.as_str(), want, "{rest}");
+fn a_second_structure_is_judged_behind_the_first(rt: HostRuntime) -> Result<(), Fail> {
+    let alloc = rt.alloc();
+    for (rest, want) in BEHIND {
+        let mut structures = hex::decode(alloc, SOURCE)?;
+        structures.extend_from_slice(&hex::decode(alloc, rest)?)?;
+        assert_eq!(rt; told_of(alloc, 2, &structures)?.as_str(), want, "{rest}");
     }
+    for enabled in [(1u8, 1u8), (1, 0), (0, 1), (0, 0)] {
+        let text = told_of(alloc, 2, &one_id(alloc, enabled)?)?;
+        assert_eq!(rt; text.as_str(), "5 source 1 twice", "enabled {enabled:?}");
+    }
+    // The checksum that docs/FORMATS.md gives.
+    let mut bytes = table(alloc, 2, &one_id(alloc, (1, 1))?)?;
+    put(&mut bytes, 9, &[0x2e]);
+    assert_eq!(rt; told(alloc, &bytes)?.as_str(), "5 source 1 twice");
+    // Structures that are skipped may have any id.
+    let mut structures = blank(alloc, 2, 1, 20)?;
+    structures.extend_from_slice(&hex::decode(alloc, SOURCE)?)?;
+    structures.extend_from_slice(&blank(alloc, 7, 1, 44)?)?;
+    assert_eq!(rt; told_of(alloc, 3, &structures)?.as_str(), "accepted");
     Ok(())
 }
 
-// What is changed in the sample of version 2: an offset, its bytes, another offset and its bytes, and what is told.
-const ORDER: [(&str, usize, u8, usize, u8, &str); 6] = [
-    (
-        "ack register",
-        ACK,
-        2,
-        ACK,
-        2,
-        "6 register of source 2: 1 space",
-    ),
-    (
-        "both registers",
-        STATUS,
-        2,
-        ACK + 3,
-        5,
-        "6 register of source 2: 1 space",
-    ),
-    (
-        "register and block",
-        ACK + 3,
-        5,
-        BLOCK_LENGTH + 1,
-        0,
-        "6 register of source 2: 2 access size",
-    ),
-    (
-        "block",
-        BLOCK_LENGTH + 1,
-        0,
-        BLOCK_LENGTH,
-        19,
-        "7 block length of source 2",
-    ),
-    (
-        "block of 20",
-        BLOCK_LENGTH + 1,
-        0,
-        BLOCK_LENGTH,
-        20,
-        "accepted",
-    ),
-    (
-        "a type before all else",
-        0,
-        12,
-        STATUS,
-        2,
-        "3 source type 12 at 40",
-    ),
+// What is changed in the sample of version 2: an offset and its byte, and another offset and its byte; and what is told,
+// where the table states the count 1, where it states 7, and where the source is not enabled.
+#[rattlefmt::skip]
+const ORDER: [((usize, u8), (usize, u8), [&str; 3]); 6] = [
+    ((ACK, 2), (ACK, 2), [SPACE, SPACE, "accepted"]),
+    ((STATUS, 2), (ACK + 3, 5), [SPACE, SPACE, "accepted"]),
+    ((ACK + 3, 5), (BLOCK_LENGTH + 1, 0), [ACCESS, ACCESS, "accepted"]),
+    ((BLOCK_LENGTH + 1, 0), (BLOCK_LENGTH, 19), [BLOCK, BLOCK, "accepted"]),
+    // A wrong count is told only where there is no other reason.
+    ((BLOCK_LENGTH + 1, 0), (BLOCK_LENGTH, 20), ["accepted", "4 count says 7, found 1", "accepted"]),
+    // Of a source that is not enabled only the type is judged.
+    ((0, 12), (STATUS, 2), [TYPE, TYPE, TYPE]),
 ];
+
+const SPACE: &str = "6 register of source 2: 1 space";
+
+const ACCESS: &str = "6 register of source 2: 2 access size";
+
+const BLOCK: &str = "7 block length of source 2";
+
+const TYPE: &str = "3 source type 12 at 40";
 
 #[test]
 fn the_first_reason_of_one_source_is_told(rt: HostRuntime) -> Result<(), Fail> {
-    for (name, first, byte, second, other, want) in &ORDER {
-        let mut structure = hex::decode(rt.alloc(), SOURCE_2)?;
-        put(&mut structure, *first, &[*byte]);
-        put(&mut structure, *second, &[*other]);
-        let text = told_of(rt.alloc(), 1, &structure)?;
-        assert_eq!(rt; text.as_str(), *want, "{name}");
-
-        // A wrong count is told only where there is no other reason.
-        let text = told_of(rt.alloc(), 7, &structure)?;
-        let counted = if *want == "accepted" {
-            "4 count says 7, found 1"
-        } else {
-            *want
-        };
-        assert_eq!(rt; text.as_str(), counted, "{name}, another count");
-    }
-    Ok(())
-}
-
-#[test]
-fn of_a_source_that_is_not_enabled_only_the_type_is_judged(rt: HostRuntime) -> Result<(), Fail> {
-    for (name, first, byte, second, other, want) in &ORDER {
-        let mut structure = hex::decode(rt.alloc(), SOURCE_2)?;
-        put(&mut structure, *first, &[*byte]);
-        put(&mut structure, *second, &[*other]);
-        put(&mut structure, ENABLED, &[0]);
-        let disabled = if *byte == 12 { *want } else { "accepted" };
-        let text = told_of(rt.alloc(), 1, &structure)?;
-        assert_eq!(rt; text.as_str(), disabled, "{name}");
-    }
-    Ok(())
-}
-
-#[test]
-fn two_generic_sources_may_not_have_one_id(rt: HostRuntime) -> Result<(), Fail> {
-    for (first_on, second_on) in [(1u8, 1u8), (1, 0), (0, 1), (0, 0)] {
-        let mut structures = hex::decode(rt.alloc(), SOURCE)?;
-        let mut second = hex::decode(rt.alloc(), SOURCE_2)?;
-        put(&mut structures, ENABLED, &[first_on]);
-        put(&mut second, ENABLED, &[second_on]);
-        put(&mut second, ID, &[1]);
-        structures.extend_from_slice(&second)?;
-        let mut bytes = table(rt.alloc(), 2, &structures)?;
-        if first_on == 1 && second_on == 1 {
-            put(&mut bytes, 9, &[0x2e]);
-        }
-        let text = told(rt.alloc(), &bytes)?;
+    let alloc = rt.alloc();
+    for (first, second, [one, seven, disabled]) in ORDER {
+        let mut structure = hex::decode(alloc, SOURCE_2)?;
+        put(&mut structure, first.0, &[first.1]);
+        put(&mut structure, second.0, &[second.1]);
         assert_eq!(rt;
-            text.as_str(),
-            "5 source 1 twice",
-            "enabled {first_on} {second_on}"
+            told_of(alloc, 1, &structure)?.as_str(),
+            one,
+            "{first:?} {second:?}"
+        );
+        assert_eq!(rt;
+            told_of(alloc, 7, &structure)?.as_str(),
+            seven,
+            "{first:?} {second:?}"
+        );
+        put(&mut structure, ENABLED, &[0]);
+        assert_eq!(rt;
+            told_of(alloc, 1, &structure)?.as_str(),
+            disabled,
+            "{first:?} {second:?}"
         );
     }
-    Ok(())
-}
-
-#[test]
-fn a_skipped_source_may_have_any_id(rt: HostRuntime) -> Result<(), Fail> {
-    let mut structures = blank(rt.alloc(), 2, 1, 20)?;
-    structures.extend_from_slice(&hex::decode(rt.alloc(), SOURCE)?)?;
-    structures.extend_from_slice(&blank(rt.alloc(), 7, 1, 44)?)?;
-    let text = told_of(rt.alloc(), 3, &structures)?;
-    assert_eq!(rt; text.as_str(), "accepted");
     Ok(())
 }
 
