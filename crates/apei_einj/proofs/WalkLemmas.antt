@@ -7,12 +7,12 @@ use Rattle.std.proofs.lemmas.List.{length-drop}
 use Rattle.apei_einj.specs.Entry.{entry_of, pieces_of, entries_from, is_injection}
 use Rattle.apei_einj.specs.Refusal.{entry_refusal, first_refusal}
 use Rattle.apei_einj.specs.Table.{stated_count, einj_entries, IsRunnable}
-use Rattle.apei_einj.specs.Walk.{IsWalked}
+use Rattle.apei_einj.specs.Walk.{IsReadUpTo}
 use Rattle.apei_einj.specs.declared.entry.Entry.{Entry}
 use Rattle.apei_einj.specs.declared.error.EinjError.{EinjError}
 
 -- no entry yet
-pub walked_none : (bytes : List ℕ) → 48 ≤ length bytes → 32 * stated_count bytes ≡ length (drop 48 bytes) → IsWalked bytes [] 48 (drop 48 bytes)
+pub walked_none : (bytes : List ℕ) → 48 ≤ length bytes → 32 * stated_count bytes ≡ length (drop 48 bytes) → IsReadUpTo bytes [] 48 (drop 48 bytes)
 unfolding einj_entries
 walked_none bytes long counted =
     let behind = length-drop 48 bytes in
@@ -53,7 +53,7 @@ entries_more bytes found left at rest e =
     ∙ sym (append_assoc found (cond (is_injection entry) (entry ∷ []) []) later)
 
 -- one more entry, which is kept where an injection runs its action
-step : (bytes : List ℕ) (found : List Entry) (at : ℕ) (rest : List ℕ) (left : ℕ) → 32 * left ≡ length rest → 0 < length rest → at + length rest ≡ length bytes → einj_entries bytes ≡ found ++ filter is_injection (entries_from at (pieces_of left rest)) → AllByRecursion IsRunnable found → (is_injection (entry_of (take 32 rest) at) ≡ true → entry_refusal (entry_of (take 32 rest) at) ≡ None) → IsWalked bytes (found ++ filter is_injection (entry_of (take 32 rest) at ∷ [])) (at + 32) (drop 32 rest)
+step : (bytes : List ℕ) (found : List Entry) (at : ℕ) (rest : List ℕ) (left : ℕ) → 32 * left ≡ length rest → 0 < length rest → at + length rest ≡ length bytes → einj_entries bytes ≡ found ++ filter is_injection (entries_from at (pieces_of left rest)) → AllByRecursion IsRunnable found → (is_injection (entry_of (take 32 rest) at) ≡ true → entry_refusal (entry_of (take 32 rest) at) ≡ None) → IsReadUpTo bytes (found ++ filter is_injection (entry_of (take 32 rest) at ∷ [])) (at + 32) (drop 32 rest)
 step bytes found at rest zero whole more place entries runnable here = absurd (omega arith)
 step bytes found at rest (suc left) whole more place entries runnable here =
     let entry = entry_of (take 32 rest) at in
@@ -66,11 +66,11 @@ step bytes found at rest (suc left) whole more place entries runnable here =
       runnable = all_append found (cond (is_injection entry) (entry ∷ []) []) runnable (kept_runnable entry (is_injection entry) refl here);
     }
 
-pub walked_more : (bytes : List ℕ) (found : List Entry) (at : ℕ) (rest : List ℕ) → IsWalked bytes found at rest → 0 < length rest → (is_injection (entry_of (take 32 rest) at) ≡ true → entry_refusal (entry_of (take 32 rest) at) ≡ None) → IsWalked bytes (found ++ filter is_injection (entry_of (take 32 rest) at ∷ [])) (at + 32) (drop 32 rest)
+pub walked_more : (bytes : List ℕ) (found : List Entry) (at : ℕ) (rest : List ℕ) → IsReadUpTo bytes found at rest → 0 < length rest → (is_injection (entry_of (take 32 rest) at) ≡ true → entry_refusal (entry_of (take 32 rest) at) ≡ None) → IsReadUpTo bytes (found ++ filter is_injection (entry_of (take 32 rest) at ∷ [])) (at + 32) (drop 32 rest)
 walked_more bytes found at rest w more here = step bytes found at rest w.left w.whole more w.place w.entries w.runnable here
 
 -- a rest that is not empty has one entry or more
-pub walked_room : (bytes : List ℕ) (found : List Entry) (at : ℕ) (rest : List ℕ) → IsWalked bytes found at rest → 0 < length rest → 32 ≤ length rest
+pub walked_room : (bytes : List ℕ) (found : List Entry) (at : ℕ) (rest : List ℕ) → IsReadUpTo bytes found at rest → 0 < length rest → 32 ≤ length rest
 walked_room bytes found at rest w more = omega (arith, w.whole)
 
 -- an empty rest has no entry
@@ -79,7 +79,7 @@ ended bytes found at rest zero whole none entries =
     sym (entries ∙ ap (λ (xs : List Entry). found ++ filter is_injection xs) (pieces_none at rest) ∙ append-nil found)
 ended bytes found at rest (suc left) whole none entries = absurd (omega arith)
 
-pub walked_all : (bytes : List ℕ) (found : List Entry) (at : ℕ) (rest : List ℕ) → IsWalked bytes found at rest → (length rest == 0) ≡ true → found ≡ einj_entries bytes
+pub walked_all : (bytes : List ℕ) (found : List Entry) (at : ℕ) (rest : List ℕ) → IsReadUpTo bytes found at rest → (length rest == 0) ≡ true → found ≡ einj_entries bytes
 walked_all bytes found at rest w none = ended bytes found at rest w.left w.whole (eqb-true (length rest) 0 none) w.entries
 
 -- behind entries that can be run, the others decide
@@ -104,5 +104,5 @@ stopped bytes found at rest (suc left) error whole more entries runnable is refu
     ∙ refused_here entry later error is refused
 
 -- the walk stops at an entry that is refused
-pub walked_stops : (bytes : List ℕ) (found : List Entry) (at : ℕ) (rest : List ℕ) (error : EinjError) → IsWalked bytes found at rest → 0 < length rest → is_injection (entry_of (take 32 rest) at) ≡ true → entry_refusal (entry_of (take 32 rest) at) ≡ Some error → first_refusal (einj_entries bytes) ≡ Some error
+pub walked_stops : (bytes : List ℕ) (found : List Entry) (at : ℕ) (rest : List ℕ) (error : EinjError) → IsReadUpTo bytes found at rest → 0 < length rest → is_injection (entry_of (take 32 rest) at) ≡ true → entry_refusal (entry_of (take 32 rest) at) ≡ Some error → first_refusal (einj_entries bytes) ≡ Some error
 walked_stops bytes found at rest error w more is refused = stopped bytes found at rest w.left error w.whole more w.entries w.runnable is refused

@@ -5,9 +5,9 @@ use Rattle.apei_einj.specs.Entry.{pieces_of, entries_from, is_injection}
 use Rattle.apei_einj.specs.Table.{einj_entries, IsRunnable}
 use Rattle.apei_einj.specs.declared.entry.Entry.{Entry}
 
--- The table has these entries and then those of the rest, which is so many whole ones and stands at this offset; the
--- first ones can be run.
-pub record IsWalked (bytes : List ℕ) (found : List Entry) (at : ℕ) (rest : List ℕ) : Type 0 where
+-- A table of a stated count is read up to a rest: it has these entries and then those of the rest, which is so many whole
+-- ones and stands at this offset; the first ones can be run (own choice).
+pub record IsReadUpTo (bytes : List ℕ) (found : List Entry) (at : ℕ) (rest : List ℕ) : Type 0 where
   pub left : ℕ
   pub whole : 32 * left ≡ length rest
   pub place : at + length rest ≡ length bytes

@@ -105,15 +105,6 @@ const EXECUTE: Entry = Entry {
     mask: 0xff,
 };
 
-#[test]
-fn the_sample_gives_its_entries(rt: HostRuntime) -> Result<(), Fail> {
-    let einj = Einj::read(rt.alloc(), &changed(rt.alloc(), 44, &[9], 0x71)?)?;
-    assert_eq!(rt; einj.entries().len(), 9);
-    assert_eq!(rt; einj.entries().get(5).copied(), Some(EXECUTE));
-    assert_eq!(rt; einj.entries().get(6).copied(), Some(CHECK_BUSY));
-    Ok(())
-}
-
 // Where the anchors of the sample begin, by their actions.
 const ANCHORS: [(u8, Option<u32>); 10] = [
     (0, None),
@@ -129,10 +120,19 @@ const ANCHORS: [(u8, Option<u32>); 10] = [
 ];
 
 #[test]
-fn each_action_of_the_sample_has_its_anchor(rt: HostRuntime) -> Result<(), Fail> {
+fn the_sample_gives_its_entries_and_their_anchors(rt: HostRuntime) -> Result<(), Fail> {
     let einj = Einj::read(rt.alloc(), &changed(rt.alloc(), 44, &[9], 0x71)?)?;
+    assert_eq!(rt; einj.entries().len(), 9);
+    assert_eq!(rt; einj.entries().get(5).copied(), Some(EXECUTE));
+    assert_eq!(rt; einj.entries().get(6).copied(), Some(CHECK_BUSY));
     for (action, want) in &ANCHORS {
         assert_eq!(rt; anchor_at(&einj, *action), *want, "of action {action}");
+    }
+    // A second entry of an action is no anchor, and one of an unknown action is passed over.
+    for (entry, checksum, count) in [(SECOND_3, 0xa4, 10usize), (UNKNOWN, 0x46, 9)] {
+        let einj = Einj::read(rt.alloc(), &with_tenth(rt.alloc(), entry, checksum)?)?;
+        assert_eq!(rt; einj.entries().len(), count, "{entry}");
+        assert_eq!(rt; anchor_at(&einj, 3), Some(144), "{entry}");
     }
     Ok(())
 }
@@ -176,20 +176,5 @@ fn a_changed_sample_is_refused_in_its_words(rt: HostRuntime) -> Result<(), Fail>
     let bytes = changed(rt.alloc(), 44, &[9], 0x71)?;
     let text = told(rt.alloc(), bytes.get(..35).unwrap_or(&[]))?;
     assert_eq!(rt; text.as_str(), "1 table: 1 short");
-    Ok(())
-}
-
-#[test]
-fn the_first_of_two_entries_is_the_anchor(rt: HostRuntime) -> Result<(), Fail> {
-    let einj = Einj::read(rt.alloc(), &with_tenth(rt.alloc(), SECOND_3, 0xa4)?)?;
-    assert_eq!(rt; einj.entries().len(), 10);
-    assert_eq!(rt; anchor_at(&einj, 3), Some(144));
-    Ok(())
-}
-
-#[test]
-fn an_entry_of_another_action_is_passed_over(rt: HostRuntime) -> Result<(), Fail> {
-    let einj = Einj::read(rt.alloc(), &with_tenth(rt.alloc(), UNKNOWN, 0x46)?)?;
-    assert_eq!(rt; einj.entries().len(), 9);
     Ok(())
 }

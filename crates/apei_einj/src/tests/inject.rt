@@ -61,19 +61,6 @@ const ENDS: [((u8, u8), (u64, u64), Asked, (End, u64, [u64; 4])); 9] = [
     (WHOLE, (TRIGGER, 0x3_0000), IN_MEMORY, (Err(InjectError::Trigger(1)), 12, [0, 8, 0x9a, 0])),
 ];
 
-#[test]
-fn an_injection_ends_at_the_first_refusal(rt: HostRuntime) -> Result<(), Fail> {
-    for ((action, checksum), held, asked, want) in &ENDS {
-        let einj = Einj::read(
-            rt.alloc(),
-            &changed(rt.alloc(), 304, &[*action], *checksum)?,
-        )?;
-        let told = told(rt.alloc(), &einj, *held, *asked)?;
-        assert_eq!(rt; told, *want, "{held:?} {asked:?}");
-    }
-    Ok(())
-}
-
 // What an injection ends with where the machine is busy so many times, and what the first cell holds then.
 fn waited(alloc: Global, einj: &Einj, busy: u32) -> Result<(End, u64), Fail> {
     let mut bus = Slow {
@@ -85,7 +72,15 @@ fn waited(alloc: Global, einj: &Einj, busy: u32) -> Result<(End, u64), Fail> {
 }
 
 #[test]
-fn the_machine_may_be_busy_999_times(rt: HostRuntime) -> Result<(), Fail> {
+fn an_injection_ends_at_the_first_refusal_and_waits_999_times(rt: HostRuntime) -> Result<(), Fail> {
+    for ((action, checksum), held, asked, want) in &ENDS {
+        let einj = Einj::read(
+            rt.alloc(),
+            &changed(rt.alloc(), 304, &[*action], *checksum)?,
+        )?;
+        let told = told(rt.alloc(), &einj, *held, *asked)?;
+        assert_eq!(rt; told, *want, "{held:?} {asked:?}");
+    }
     let einj = Einj::read(rt.alloc(), &changed(rt.alloc(), 44, &[9], 0x71)?)?;
     for busy_reads in [0, 1, 999] {
         let told = waited(rt.alloc(), &einj, busy_reads)?;
@@ -108,15 +103,6 @@ const TEXTS: [(InjectError, &str); 6] = [
     (InjectError::NoAddress, "no address"),
 ];
 
-#[test]
-fn each_end_has_its_words(rt: HostRuntime) -> Result<(), Fail> {
-    for (error, want) in &TEXTS {
-        let text = error.to_string(rt.alloc())?;
-        assert_eq!(rt; text.as_str(), *want);
-    }
-    Ok(())
-}
-
 // Numbers that are error types, and numbers that are none.
 const TYPED: [u32; 12] = [
     1, 2, 4, 8, 0x10, 0x20, 0x40, 0x80, 0x100, 0x200, 0x400, 0x800,
@@ -125,12 +111,18 @@ const TYPED: [u32; 12] = [
 const UNTYPED: [u32; 5] = [0, 3, 0x1000, 0x8000_0000, 0x8000_0008];
 
 #[test]
-fn an_error_type_is_one_of_twelve_bits(rt: HostRuntime) -> Result<(), Fail> {
+fn an_error_type_is_one_of_twelve_bits_and_each_end_has_its_words(
+    rt: HostRuntime,
+) -> Result<(), Fail> {
     for error in TYPED {
         assert!(rt; is_error_type(error), "{error:x}");
     }
     for error in UNTYPED {
         assert!(rt; !is_error_type(error), "{error:x}");
+    }
+    for (error, want) in &TEXTS {
+        let text = error.to_string(rt.alloc())?;
+        assert_eq!(rt; text.as_str(), *want);
     }
     Ok(())
 }
