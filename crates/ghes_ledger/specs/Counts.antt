@@ -37,11 +37,12 @@ abbrev pub is_no_slot : Outcome → Bool
 is_no_slot NoSlot = true
 is_no_slot _ = false
 
--- a taken block was told as a repeat (own choice)
+-- a delivery is told as a repeat (own choice)
 abbrev pub is_repeated : Reported → Bool
 is_repeated (New number) = false
 is_repeated (Repeat number) = true
 
+-- a taken block was told as a repeat (own choice)
 abbrev pub is_repeat : Taken → Bool
 is_repeat (Delivered source seq bytes reported) = is_repeated reported
 is_repeat (Dropped source seq bytes reason) = false

@@ -13,6 +13,7 @@ pub record Act : Type 0 where
   pub number : ℕ
   pub asks : Asks
 
+-- the end of a script (own choice)
 abbrev pub script_end : Act
 script_end = record { number = 0; asks = Ends }
 
@@ -30,23 +31,27 @@ pub record Executed : Type 0 where
   pub peeks : List ℕ
   pub taken : List Taken
 
--- the lists of a history, oldest first
+-- the lines of a history, oldest first (own choice)
 abbrev pub acts_in : List Executed → List Act
 acts_in [] = []
 acts_in (line ∷ before) = acts_in before ++ line.act ∷ []
 
+-- the calls of a history, oldest first (own choice)
 abbrev pub calls_in : List Executed → List Call
 calls_in [] = []
 calls_in (line ∷ before) = calls_in before ++ line.calls
 
+-- the ends of the injections of a history, oldest first (own choice)
 abbrev pub ends_in : List Executed → List InjectionEnd
 ends_in [] = []
 ends_in (line ∷ before) = ends_in before ++ line.ends
 
+-- the ack cells that were looked at in a history, oldest first (own choice)
 abbrev pub peeks_in : List Executed → List ℕ
 peeks_in [] = []
 peeks_in (line ∷ before) = peeks_in before ++ line.peeks
 
+-- the blocks that were taken in a history, oldest first (own choice)
 abbrev pub taken_in : List Executed → List Taken
 taken_in [] = []
 taken_in (line ∷ before) = taken_in before ++ line.taken
@@ -78,16 +83,17 @@ marks_in plan (line ∷ before) =
       taken = length (taken_in (line ∷ before));
     } ∷ []
 
--- the time after a line, and after a history
+-- the time after a line, told the time before it (own choice)
 abbrev pub clock_by : Asks → ℕ → ℕ
 clock_by (Quiet (Clock time)) before = time
 clock_by _ before = before
 
+-- the time after a history, 0 at first (own choice)
 abbrev pub clock_after : List Executed → ℕ
 clock_after [] = 0
 clock_after (line ∷ before) = clock_by line.act.asks (clock_after before)
 
--- how many accesses of a source are to fail by a line, and by a history
+-- how many accesses of a source are to fail by a line (own choice)
 abbrev pub fails_by : ℕ → Asks → ℕ
 fails_by s (Quiet (Fail source)) = if source == s then 1 else 0
 fails_by s _ = 0

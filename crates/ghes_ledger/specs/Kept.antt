@@ -36,6 +36,7 @@ abbrev pub taken_by : Option Malformed → Reported → PacketSeen → Taken
 taken_by (Some reason) reported packet = Dropped packet.source packet.seq packet.bytes reason
 taken_by None reported packet = Delivered packet.source packet.seq packet.bytes reported
 
+-- what becomes of a packet by the reason that it has (own choice)
 abbrev pub taken_of : Reported → PacketSeen → Taken
 taken_of reported packet = taken_by packet.reason reported packet
 
@@ -45,10 +46,11 @@ report_at time (Delivered source seq bytes (New number)) = record { source = sou
 report_at time (Delivered source seq bytes (Repeat number)) = []
 report_at time (Dropped source seq bytes reason) = []
 
--- a ledger with one more taken block at a time, and the report that it makes, if a look found this report (own choice)
+-- a ledger with one more taken block at a time, and the report that it makes (own choice)
 abbrev pub with_entry : ℕ → Taken → Kept → Kept
 with_entry time entry kept = record kept { taken = kept.taken ++ entry ∷ []; reports = kept.reports ++ report_at time entry }
 
+-- a ledger with one more packet that is taken at a time, where a look found this report (own choice)
 abbrev pub with_taken : ℕ → Option ℕ → PacketSeen → Kept → Kept
 with_taken time found packet kept = with_entry time (taken_of (told_as found (length kept.reports)) packet) kept
 

@@ -72,10 +72,11 @@ IsAsked false ack = ack ≡ NotAsked
 abbrev pub StandsWith : (List ℕ → Type 0) → Option (List ℕ) → Type 0
 StandsWith P stands = (block : List ℕ) × (stands ≡ Some block) × P block
 
--- the image of a block is well formed and not fatal, or fatal; and it is malformed for a reason
+-- the image of a block is well formed and not fatal (own choice)
 abbrev pub IsNews : ℕ → List ℕ → Type 0
 IsNews limit block = (image_reason limit block ≡ None) × (is_fatal (image_of limit block) ≡ false)
 
+-- the image of a block is well formed and fatal (own choice)
 abbrev pub IsFatal : ℕ → List ℕ → Type 0
 IsFatal limit block = (image_reason limit block ≡ None) × (is_fatal (image_of limit block) ≡ true)
 

@@ -18,10 +18,11 @@ queue s (line ∷ before) = queue s before ++ blocks_of s line.made
 abbrev pub block_at : ℕ → List (List ℕ) → Option (List ℕ)
 block_at n blocks = slice_get blocks (n - 1)
 
--- the numbers of the blocks of a source that these calls acknowledged, in order
+-- the number of the block of a source that a call acknowledged, if it did (own choice)
 abbrev pub number_by : ℕ → Call → List ℕ
 number_by s call = if call.source == s then number_of call.reply.outcome else []
 
+-- the numbers of the blocks of a source that these calls acknowledged, in order (own choice)
 abbrev pub numbers_of : ℕ → List Call → List ℕ
 numbers_of s calls = flat_map (number_by s) calls
 
@@ -29,10 +30,11 @@ numbers_of s calls = flat_map (number_by s) calls
 abbrev pub acknowledged : ℕ → List Call → ℕ
 acknowledged s calls = length (numbers_of s calls)
 
--- the calls on a source whose acknowledgement failed, and those in which any access failed
+-- the calls on a source whose acknowledgement failed (own choice)
 abbrev pub stuck_calls : ℕ → List Call → List Call
 stuck_calls s calls = filter (λ call. (call.source == s) && is_failed call.reply.ack) calls
 
+-- the calls on a source in which an access failed (own choice)
 abbrev pub faulty_calls : ℕ → List Call → List Call
 faulty_calls s calls = filter (λ call. (call.source == s) && (is_fault call.reply.outcome || is_failed call.reply.ack)) calls
 

@@ -26,6 +26,7 @@ abbrev pub has_run_out : ℕ → Option Place → Bool
 has_run_out now None = false
 has_run_out now (Some place) = nat_le place.time now && nat_le window (now - place.time)
 
+-- a place has no report (own choice)
 abbrev pub is_empty : Option Place → Bool
 is_empty None = true
 is_empty (Some place) = false
@@ -41,19 +42,23 @@ abbrev pub lowest : (Option Place → Bool) → ℕ → List (Option Place) → 
 lowest test i [] = None
 lowest test i (place ∷ places) = if test place then Some i else lowest test (i + 1) places
 
--- the lowest of the places with the least time, by the best so far
+-- the time of the report of a place, 0 where it has none (own choice)
 abbrev pub time_of : Option Place → ℕ
 time_of None = 0
 time_of (Some place) = place.time
 
+-- the lowest of the places with the least time, told the best so far, its time, and the number of the first place here
+-- (own choice)
 abbrev pub oldest : ℕ → ℕ → ℕ → List (Option Place) → ℕ
 oldest best time i [] = best
 oldest best time i (place ∷ places) = if nat_lt (time_of place) time then oldest i (time_of place) (i + 1) places else oldest best time (i + 1) places
 
+-- a number, if there is one, and else another (own choice)
 abbrev pub or_else : Option ℕ → ℕ → ℕ
 or_else None other = other
 or_else (Some i) other = i
 
+-- the lowest of the places with the least time, counted from 0 on (own choice)
 abbrev pub oldest_of : List (Option Place) → ℕ
 oldest_of [] = 0
 oldest_of (place ∷ places) = oldest 0 (time_of place) 1 places

@@ -22,14 +22,16 @@ abbrev pub numbered_duplicate : Outcome → List (ℕ × Fate)
 numbered_duplicate (Duplicate number report) = (number, fates.Duplicate report) ∷ []
 numbered_duplicate _ = []
 
--- the numbers and fates that a call, a taken block and a block of the panic list give for a source (own choice)
+-- the number and the fate that a call gives for a block of a source, if it does (own choice)
 abbrev pub numbered_call : ℕ → Call → List (ℕ × Fate)
 numbered_call s call = if call.source == s then numbered_duplicate call.reply.outcome else []
 
+-- the number and the fate that a taken block gives for a source (own choice)
 abbrev pub numbered_taken : ℕ → Taken → List (ℕ × Fate)
 numbered_taken s (Delivered source seq bytes reported) = if source == s then (seq, fates.Delivered) ∷ [] else []
 numbered_taken s (Dropped source seq bytes reason) = if source == s then (seq, fates.Dropped reason) ∷ [] else []
 
+-- the number and the fate that a block of the panic list gives for a source (own choice)
 abbrev pub numbered_panic : ℕ → PanicEntry → List (ℕ × Fate)
 numbered_panic s entry = if entry.source == s then (entry.seq, fates.Panic) ∷ [] else []
 
