@@ -2,6 +2,7 @@
 use Rattle.std.specs.Prelude.{◌≡◌, ◌≢◌, ◌<◌, ◌≤◌, ℕ, ◌+◌, List, [], ◌∷◌, ◌++◌, length, codes, ◌⊎◌, Ok, IsErr, true, false}
 use Rattle.std.specs.List.{AllByRecursion}
 use Rattle.byteorder.specs.Endian.{little_number}
+use Rattle.cper_block.specs.Block.{largest_block}
 use Rattle.hex.specs.Hex.{decode_of}
 use Rattle.ghes_plain_script.specs.Spelling.{is_block, IsWord, nmi_line, raise_front}
 use Rattle.ghes_plain_script.specs.declared.error.BadLine.{BadLine}
@@ -47,9 +48,9 @@ IsOfFirst (Raise source block) = source ≡ 0
 IsOfFirst (Nmi source) = source ≡ 0
 IsOfFirst Work = Unit {0}
 
--- a block that a line raises has from 20 to 65,536 bytes and a block status (ACPI 6.5, 18.3.2.7.1; the sizes: own choice)
+-- a block that a line raises has from 20 bytes to those of the largest block, and a block status (ACPI 6.5, 18.3.2.7.1; the sizes: own choice)
 abbrev pub RaisesBlock : What → Type 0
-RaisesBlock (Raise source block) = (20 ≤ length block) × (length block ≤ 65536) × (little_number 4 block ≢ 0)
+RaisesBlock (Raise source block) = (20 ≤ length block) × (length block ≤ largest_block) × (little_number 4 block ≢ 0)
 RaisesBlock (Nmi source) = Unit {0}
 RaisesBlock Work = Unit {0}
 

@@ -3,11 +3,13 @@ use Rattle.std.specs.Prelude.{◌≢◌, ◌<◌, ℕ, Bool, not, ◌&&◌, ◌=
 use Rattle.std.specs.Fmt.{decimal}
 use Rattle.std.specs.List.{AllByRecursion}
 use Rattle.byteorder.specs.Endian.{little_number}
+use Rattle.cper_block.specs.Block.{largest_block}
 
--- A block that a script may raise has 20 to 65,536 bytes, and its block status, the first four of them, is not 0
+-- A block that a script may raise has from 20 bytes to those of the largest block, and its block status, the first four of
+-- them, is not 0
 -- (ACPI 6.5, 18.3.2.7.1; the sizes: own choice).
 abbrev pub is_block : List ℕ → Bool
-is_block block = nat_le 20 (length block) && nat_le (length block) 65536 && not (little_number 4 block == 0)
+is_block block = nat_le 20 (length block) && nat_le (length block) largest_block && not (little_number 4 block == 0)
 
 -- a word has at least one byte, and no space (own choice)
 pub record IsWord (word : List ℕ) : Type 0 where

@@ -8,6 +8,7 @@ use crate::forms::Forms;
 use crate::{BadLine, Line, ScriptError, ScriptKind, What};
 use apei_base::Bytes;
 use byteorder::{ByteOrder, LittleEndian};
+use cper_block::LARGEST_BLOCK;
 use hex::FromHexError;
 use memchr::memchr;
 use std::alloc::{AllocError, Global};
@@ -16,7 +17,7 @@ use std::alloc::{AllocError, Global};
 fn is_block(bytes: &[u8]) -> bool
     ensures { result ≡ is_block bytes.now }
 {
-    bytes.len() >= 20 && bytes.len() <= 65_536 && LittleEndian::read_u32(bytes) != 0
+    bytes.len() >= 20 && bytes.len() <= LARGEST_BLOCK as usize && LittleEndian::read_u32(bytes) != 0
 }
 
 // The block that a word spells, if a script may raise it.
