@@ -1,5 +1,5 @@
 -- One call of the receiver: its outcome, and what each outcome changes.
-use Rattle.std.specs.Prelude.{ℕ, List, [], ◌∷◌, ◌++◌, length, nat_le, Bool, true, false, slice_get, Option, Some, None}
+use Rattle.std.specs.Prelude.{◌≡◌, ℕ, List, [], ◌∷◌, ◌++◌, length, nat_le, Bool, true, false, slice_get, Option, Some, None}
 use Rattle.cper_block.specs.declared.malformed.Malformed.{Malformed as Reason}
 use Rattle.ghes_call.specs.declared.call.AckState.TheVariants.{NotAsked}
 use Rattle.ghes_call.specs.declared.call.Call.{Call}
@@ -41,6 +41,24 @@ blocks_after _ blocks = blocks
 -- the packet of a block: its image, and why that is malformed, if it is
 abbrev pub packet_for : ℕ → ℕ → ℕ → List ℕ → PacketSeen
 packet_for limit source number block = record { source = source; seq = number; reason = image_reason limit block; bytes = image_of limit block }
+
+-- an outcome is for the block of this number, or for none (own choice)
+abbrev pub IsFor : ℕ → Outcome → Type 0
+IsFor number (Queued n) = n ≡ number
+IsFor number (Malformed n reason) = n ≡ number
+IsFor number (Fatal n) = n ≡ number
+IsFor number _ = Unit {0}
+
+-- Queued and Malformed make a packet pending (own choice).
+abbrev pub with_queued : Outcome → PacketSeen → List PacketSeen → List PacketSeen
+with_queued (Queued number) packet pending = pending ++ packet ∷ []
+with_queued (Malformed number reason) packet pending = pending ++ packet ∷ []
+with_queued _ packet pending = pending
+
+-- Fatal keeps a packet (own choice).
+abbrev pub fatal_by : Outcome → PacketSeen → Option PacketSeen
+fatal_by (Fatal number) packet = Some packet
+fatal_by _ packet = None
 
 -- Queued and Malformed make the packet of the block that stood pending.
 abbrev pub pending_after : ℕ → ℕ → Outcome → Option (List ℕ) → List PacketSeen → List PacketSeen

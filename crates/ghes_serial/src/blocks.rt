@@ -54,7 +54,8 @@ impl Blocks {
 
     /// Firmware has a new block.
     pub fn raise(&mut self, block: Bytes) -> Result<(), AllocError>
-        ensures ok { OnOk result (self.new ≡ record self.old { made = self.old.made ++ block ∷ [] }) }
+        ensures ok { OnOk result
+            (self.new ≡ record self.old { made = self.old.made ++ block ∷ [] }) }
         ensures err { OnErr result (self.new ≡ self.old) }
     {
         self.made.push(block)?;
@@ -68,8 +69,8 @@ impl Blocks {
         self.made.get(self.acknowledged as usize)
     }
 
-    /// The block that stands is taken note of, and stands no longer.
-    pub fn acknowledge(&mut self)
+    /// Clears the block that stands, and so acknowledges it.
+    pub fn clear(&mut self)
         requires stands { self.old.acknowledged < length self.old.made }
         requires fits { self.old.acknowledged + 1 < 2 ^ 32 }
         ensures { self.new ≡ record self.old { acknowledged = self.old.acknowledged + 1 } }

@@ -51,7 +51,8 @@ impl Pending {
 
     /// Takes the oldest packet.
     pub fn take_first(&mut self) -> Option<Packet>
-        ensures { MatchOption result ((self.old ≡ []) × (self.new ≡ [])) (λ packet. self.old ≡ seen_of packet ∷ self.new) }
+        ensures { MatchOption result ((self.old ≡ []) × (self.new ≡ []))
+            (λ packet. self.old ≡ seen_of packet ∷ self.new) }
     {
         self.packets.pop_front()
     }

@@ -26,7 +26,8 @@ pub struct Run {
 pub fn run_lines(alloc: Global, limit: u32, lines: &[Line]) -> Result<Run, AllocError>
     requires few { length lines.now < 2 ^ 32 }
     requires first { AllByRecursion (λ line. IsOfFirst line.what) lines.now }
-    ensures { IfOk result (λ run. (id : ℕ) → IsRun (one_source id limit) (map act_of lines.now) run.ledger run.raised run.acknowledged) }
+    ensures { IfOk result (λ run. (id : ℕ) → IsRun (one_source id limit) (map act_of lines.now)
+        run.ledger run.raised run.acknowledged) }
 {
     let mut replay = Replay::new(alloc, limit);
     let mut next = 0;
