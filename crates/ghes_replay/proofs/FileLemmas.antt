@@ -8,7 +8,7 @@ use Rattle.ghes_plain_script.specs.declared.line.Line.{Line}
 use Rattle.ghes_replay.specs.declared.exit.InputFile.TheVariants as files
 use Rattle.ghes_replay.specs.declared.exit.Refusal.{Refusal}
 use Rattle.ghes_replay.specs.declared.exit.Refusal.TheVariants as refusals
-use Rattle.ghes_replay.specs.Loading.{HasHest, HasTable, HasInjection, HasLines, LoadCause, HestCause, SourceCause, EinjCause, ScriptCause, LoadsFile, LoadsHest, LoadsSource, LoadsInjection, LoadsScript, ReadsHest, ReadsNamed, ReadsLines}
+use Rattle.ghes_replay.specs.Loading.{HasHest, HasTable, HasInjection, HasLines, LoadCause, HestCause, SourceCause, EinjCause, ScriptCause, LoadsFile, LoadsHest, LoadsSource, LoadsInjection, LoadsScript, ReadsHest, ReadsEinj, ReadsLines}
 use Rattle.ghes_replay.specs.Seen.{IsLoaded, NoneFailed}
 use Rattle.ghes_replay.specs.Served.{served}
 use Rattle.ghes_replay.specs.Task.{IsEinjName}
@@ -80,18 +80,18 @@ none_named seen name none = record {
   refused = tt;
 }
 
-named_found : (before : FilesSeen) (name bytes : List ℕ) (result : Result (Option (List Entry)) Refusal) → IsEinjName name → IsLoaded before files.Einj name bytes → ReadsNamed bytes result → IfOk result (HasInjection before name)
+named_found : (before : FilesSeen) (name bytes : List ℕ) (result : Result (Option (List Entry)) Refusal) → IsEinjName name → IsLoaded before files.Einj name bytes → ReadsEinj bytes result → IfOk result (HasInjection before name)
 named_found before name bytes (Ok None) named loaded reads = absurd reads
 named_found before name bytes (Ok (Some entries)) named loaded reads = (named, (bytes, loaded, reads))
 named_found before name bytes (Err refusal) named loaded reads = tt
 
-named_cause : (before after : FilesSeen) (name bytes : List ℕ) (result : Result (Option (List Entry)) Refusal) → IsEinjName name → IsLoaded before files.Einj name bytes → ReadsNamed bytes result → IfErr result (NamedCause before after name)
+named_cause : (before after : FilesSeen) (name bytes : List ℕ) (result : Result (Option (List Entry)) Refusal) → IsEinjName name → IsLoaded before files.Einj name bytes → ReadsEinj bytes result → IfErr result (NamedCause before after name)
 named_cause before after name bytes (Ok injection) named loaded reads = tt
 named_cause before after name bytes (Err (refusals.Einj error)) named loaded reads = (named, (bytes, loaded, reads))
 named_cause before after name bytes (Err refusals.OutOfMemory) named loaded reads = (named, tt)
 named_cause before after name bytes (Err other) named loaded reads = absurd reads
 
-pub named_read : (before after : FilesSeen) (name bytes : List ℕ) (result : Result (Option (List Entry)) Refusal) → IsEinjName name → LoadsFile before after files.Einj name (Ok bytes) → ReadsNamed bytes result → LoadsInjection before after name result
+pub named_read : (before after : FilesSeen) (name bytes : List ℕ) (result : Result (Option (List Entry)) Refusal) → IsEinjName name → LoadsFile before after files.Einj name (Ok bytes) → ReadsEinj bytes result → LoadsInjection before after name result
 named_read before after name bytes result named loaded reads =
     goes_on (IsName name) (IsNamed name) before after (IsLoaded before files.Einj name) (LoadCause before after files.Einj name)
     (HasInjection before name) (NamedCause before after name) bytes result (λ other is. (is, named)) loaded

@@ -1,7 +1,7 @@
 -- The text of a block alone.
 use Rattle.std.specs.Prelude.{◌≡◌, ℕ, List, ◌++◌, codes, Option, Some, None}
 use Rattle.std.specs.Fmt.{decimal}
-use Rattle.cper_block.specs.Block.{Judges}
+use Rattle.cper_block.specs.Block.{largest_block, Judges}
 use Rattle.cper_block.specs.Header.{header_of, block_length}
 use Rattle.cper_block.specs.Text.{malformed_text}
 use Rattle.cper_block.specs.declared.malformed.Malformed.{Malformed}
@@ -22,4 +22,4 @@ decode_text bytes (Some reason) = malformed_line reason
 
 -- the text is that of the block in these bytes, as they are judged (own choice)
 abbrev pub Decodes : List ℕ → List ℕ → Type 0
-Decodes bytes text = (answer : Option Malformed) × Judges bytes 65536 answer × (text ≡ decode_text bytes answer)
+Decodes bytes text = (answer : Option Malformed) × Judges bytes largest_block answer × (text ≡ decode_text bytes answer)

@@ -121,18 +121,13 @@ ReadsHest bytes (Err (refusals.Hest error)) = Judges bytes (Err error)
 ReadsHest bytes (Err refusals.OutOfMemory) = Unit {0}
 ReadsHest bytes (Err other) = ⊥
 
--- what reading an injection table answers
-abbrev pub ReadsEinj : List ℕ → Result (List Entry) Refusal → Type 0
-ReadsEinj bytes (Ok entries) = AcceptsEinj bytes entries
+-- what reading an injection table answers that a word names
+abbrev pub ReadsEinj : List ℕ → Result (Option (List Entry)) Refusal → Type 0
+ReadsEinj bytes (Ok None) = ⊥
+ReadsEinj bytes (Ok (Some entries)) = AcceptsEinj bytes entries
 ReadsEinj bytes (Err (refusals.Einj error)) = einj_refusal bytes ≡ Some error
 ReadsEinj bytes (Err refusals.OutOfMemory) = Unit {0}
 ReadsEinj bytes (Err other) = ⊥
-
--- the same, as one that a word names
-abbrev pub ReadsNamed : List ℕ → Result (Option (List Entry)) Refusal → Type 0
-ReadsNamed bytes (Ok None) = ⊥
-ReadsNamed bytes (Ok (Some entries)) = AcceptsEinj bytes entries
-ReadsNamed bytes (Err refusal) = ReadsEinj bytes (Err refusal)
 
 -- what reading a script answers: its lines ask for the first source alone, and there are at most as many as bytes
 abbrev pub ReadsLines : ℕ → List ℕ → Result (List Line) Refusal → Type 0

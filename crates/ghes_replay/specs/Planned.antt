@@ -1,5 +1,6 @@
 -- The plan of a replay, by the source of its table that is served, and the text of its ledger.
-use Rattle.std.specs.Prelude.{ℕ, min, List, map, length}
+use Rattle.std.specs.Prelude.{ℕ, List, map, length}
+use Rattle.apei_hest.specs.Source.{limit_of}
 use Rattle.apei_hest.specs.declared.source.Ghes.{Ghes}
 use Rattle.ghes_ledger.specs.History.{Executed, calls_in}
 use Rattle.ghes_ledger.specs.Kept.{Kept}
@@ -7,10 +8,6 @@ use Rattle.ghes_ledger.specs.Plan.{Plan, all_sources}
 use Rattle.ghes_ledger.specs.Queue.{queue, acknowledged}
 use Rattle.ghes_report.specs.Replay.{replay_text}
 use Rattle.ghes_serial.specs.Lines.{one_source}
-
--- the limit of a source's blocks: its stated block length, or 65,536 where that is greater (own choice)
-abbrev pub limit_of : Ghes → ℕ
-limit_of ghes = min ghes.block_length 65536
 
 -- the plan of a script on this source
 abbrev pub plan_of : Ghes → Plan

@@ -2,6 +2,7 @@
 use Rattle.std.specs.Prelude.{◌≡◌, ◌≤◌, ℕ, List, ◌++◌, length}
 use Rattle.std.specs.Option.{option_map}
 use Rattle.std.specs.List.{AllByRecursion}
+use Rattle.cper_block.specs.Block.{largest_block}
 use Rattle.ghes_outside.specs.Outside.{FilesSeen, SinkSeen, Agrees}
 use Rattle.ghes_replay.specs.declared.exit.InputFile.{InputFile}
 use Rattle.ghes_replay.specs.declared.exit.InputFile.TheVariants as files
@@ -14,12 +15,12 @@ pub record Outside : Type 0 where
 abbrev pub outside : FilesSeen → SinkSeen → Outside
 outside files out = record { files = files; out = out }
 
--- a table has at most 1 MiB, a script at most 16 MiB, and the file of a block at most 65,536 bytes
+-- a table has at most 1 MiB, a script at most 16 MiB, and the file of a block as many bytes as a block (own choice)
 abbrev pub limit_for : InputFile → ℕ
 limit_for files.Hest = 1048576
 limit_for files.Einj = 1048576
 limit_for files.Script = 16777216
-limit_for files.Block = 65536
+limit_for files.Block = largest_block
 
 -- new failed names, behind the old ones
 abbrev pub AddsNames : FilesSeen → FilesSeen → List (List ℕ) → Type 0

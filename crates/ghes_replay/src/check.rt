@@ -5,7 +5,7 @@ ghost use Rattle.std.specs.List.{flat_map};
 ghost use Rattle.ghes_replay.specs.Done.{Prints, Does};
 ghost use Rattle.ghes_replay.specs.Task.{Check};
 ghost use Rattle.ghes_replay.specs.Views.{done_of};
-ghost use Rattle.ghes_replay.specs.Check.{form_text, ghes_line, skipped_line, source_text, hest_count_line, einj_count_line, injection_line, check_text};
+ghost use Rattle.ghes_replay.specs.Check.{form_text, ghes_line, skipped_line, source_text, hest_count_line, injection_line, check_text};
 
 use crate::Refusal;
 use crate::done::Done;
@@ -81,19 +81,15 @@ fn hest_count_line(alloc: Global, count: usize) -> Result<String, AllocError>
     format!(in alloc; "hest: {count} sources\n")
 }
 
-// The line of an injection table, by how many entries it has.
-fn einj_count_line(alloc: Global, count: usize) -> Result<String, AllocError>
-    ensures { IfOk result (λ line. string_bytes line ≡ einj_count_line count) }
-{
-    format!(in alloc; "einj: {count} entries\n")
-}
-
-// The line of an injection table, or that there is none.
+// The line of an injection table, by how many entries it has, or that there is none.
 fn injection_line(alloc: Global, injection: &Option<Einj>) -> Result<String, AllocError>
     ensures { IfOk result (λ line. string_bytes line ≡ injection_line injection.now) }
 {
     match injection {
-        Some(einj) => einj_count_line(alloc, einj.entries().len()),
+        Some(einj) => {
+            let count = einj.entries().len();
+            format!(in alloc; "einj: {count} entries\n")
+        }
         None => String::from_str(alloc, "einj: none\n"),
     }
 }

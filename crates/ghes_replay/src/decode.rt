@@ -1,7 +1,7 @@
 //! The text of a block alone.
 ghost use Rattle.std.specs.Prelude.{◌≡◌, ◌++◌, OnOk, IfOk, None};
 ghost use Rattle.std.specs.String.{string_bytes};
-ghost use Rattle.cper_block.specs.Block.{Judges};
+ghost use Rattle.cper_block.specs.Block.{largest_block, Judges};
 ghost use Rattle.cper_block.specs.Header.{header_of, block_length};
 ghost use Rattle.ghes_report.specs.Body.{block_text};
 ghost use Rattle.ghes_replay.specs.Decode.{block_line, malformed_line, Decodes};
@@ -9,16 +9,13 @@ ghost use Rattle.ghes_replay.specs.Done.{Prints, Does};
 ghost use Rattle.ghes_replay.specs.Task.{Decode};
 ghost use Rattle.ghes_replay.specs.Views.{done_of};
 
-use crate::Refusal;
 use crate::done::Done;
-use crate::loading::load_block;
-use cper_block::{Block, Header, Malformed};
+use crate::loading::load_file;
+use crate::{InputFile, Refusal};
+use cper_block::{Block, Header, LARGEST_BLOCK, Malformed};
 use ghes_outside::Files;
 use ghes_report::block_text;
 use std::alloc::{AllocError, Global};
-
-/// How many bytes a block may have.
-const BLOCK_LIMIT: u32 = 65536;
 
 // The line of a block of so many bytes.
 fn block_line(alloc: Global, count: u64) -> Result<String, AllocError>
@@ -36,7 +33,7 @@ fn malformed_line(alloc: Global, reason: Malformed) -> Result<String, AllocError
 
 // The lines of the block that the bytes begin with: how long it is, and its body.
 fn whole_text(alloc: Global, header: &Header, bytes: &[u8]) -> Result<Vec<u8>, AllocError>
-    requires block { Judges bytes.now 65536 None }
+    requires block { Judges bytes.now largest_block None }
     requires front { header.now ≡ header_of bytes.now }
     ensures { IfOk result (λ text. text.items ≡ block_line (block_length (header_of bytes.now)) ++ block_text bytes.now) }
 {
@@ -50,7 +47,7 @@ fn whole_text(alloc: Global, header: &Header, bytes: &[u8]) -> Result<Vec<u8>, A
 fn decode_text(alloc: Global, bytes: &[u8]) -> Result<Vec<u8>, AllocError>
     ensures { IfOk result (λ text. Decodes bytes.now text.items) }
 {
-    match Block::read(bytes, BLOCK_LIMIT) {
+    match Block::read(bytes, LARGEST_BLOCK) {
         Ok(block) => whole_text(alloc, &block.header(), bytes),
         Err(reason) => Ok(malformed_line(alloc, reason)?.into_bytes()),
     }
@@ -70,7 +67,7 @@ fn print_block(alloc: Global, bytes: &[u8]) -> Result<Done, Refusal>
 pub(crate) fn decode<F: Files>(alloc: Global, files: &mut F, block: &str) -> Result<Done, Refusal>
     ensures { Does (F.seen files.old) (F.seen files.new) (Decode block.now) (done_of result) }
 {
-    match load_block(alloc, files, block) {
+    match load_file(alloc, files, InputFile::Block, block) {
         Ok(bytes) => print_block(alloc, &bytes),
         Err(refusal) => Err(refusal),
     }

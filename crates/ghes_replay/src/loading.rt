@@ -1,13 +1,13 @@
 //! Loads files, and reads what they hold.
 ghost use Rattle.std.specs.Prelude.{◌≡◌, ◌<◌, ◌^◌, ◌-◌, length};
-ghost use Rattle.ghes_replay.specs.declared.exit.InputFile.TheVariants as kinds;
-ghost use Rattle.ghes_replay.specs.Loading.{LoadsFile, LoadsHest, LoadsInjection, LoadsScript, ReadsHest, ReadsEinj, ReadsNamed, ReadsLines, load_refusal};
+ghost use Rattle.ghes_replay.specs.Loading.{LoadsFile, LoadsHest, LoadsInjection, LoadsScript, ReadsHest, ReadsEinj, ReadsLines, load_refusal};
 ghost use Rattle.ghes_replay.specs.Seen.{limit_for};
 ghost use Rattle.ghes_replay.specs.Views.{lines_of, bytes_of};
 
 use crate::{InputFile, Refusal};
 use apei_einj::{Einj, EinjError};
 use apei_hest::{Ghes, Hest, HestError};
+use cper_block::LARGEST_BLOCK;
 use ghes_outside::{Files, LoadError};
 use ghes_plain_script::{Line, ScriptError, read_script};
 use std::alloc::Global;
@@ -19,7 +19,7 @@ fn limit_for(file: InputFile) -> usize
     match file {
         InputFile::Hest | InputFile::Einj => 1048576,
         InputFile::Script => 16777216,
-        InputFile::Block => 65536,
+        InputFile::Block => LARGEST_BLOCK as usize,
     }
 }
 
@@ -34,12 +34,12 @@ fn read_hest(alloc: Global, bytes: &[u8]) -> Result<Hest, Refusal>
     }
 }
 
-// The injection table that the bytes are.
-fn read_einj(alloc: Global, bytes: &[u8]) -> Result<Einj, Refusal>
+// The injection table that the bytes are, which a word names.
+fn read_einj(alloc: Global, bytes: &[u8]) -> Result<Option<Einj>, Refusal>
     ensures { ReadsEinj bytes.now result }
 {
     match Einj::read(alloc, bytes) {
-        Ok(einj) => Ok(einj),
+        Ok(einj) => Ok(Some(einj)),
         Err(EinjError::OutOfMemory) => Err(Refusal::OutOfMemory),
         Err(error) => Err(Refusal::Einj(error)),
     }
@@ -67,8 +67,8 @@ fn load_refusal(file: InputFile, why: LoadError) -> Refusal
     }
 }
 
-// Loads a file.
-fn load_file<F: Files>(
+/// Loads a file.
+pub(crate) fn load_file<F: Files>(
     alloc: Global,
     files: &mut F,
     file: InputFile,
@@ -93,16 +93,6 @@ pub(crate) fn load_hest<F: Files>(alloc: Global, files: &mut F, name: &str) -> R
     }
 }
 
-// Reads the injection table that the bytes are, as one that a word names.
-fn read_named(alloc: Global, bytes: &[u8]) -> Result<Option<Einj>, Refusal>
-    ensures { ReadsNamed bytes.now result }
-{
-    match read_einj(alloc, bytes) {
-        Ok(einj) => Ok(Some(einj)),
-        Err(refusal) => Err(refusal),
-    }
-}
-
 /// Loads the injection table that a word names, and reads its entries; `-` stands for none, and no file is read.
 pub(crate) fn load_injection<F: Files>(
     alloc: Global,
@@ -115,7 +105,7 @@ pub(crate) fn load_injection<F: Files>(
         return Ok(None);
     }
     match load_file(alloc, files, InputFile::Einj, name) {
-        Ok(bytes) => read_named(alloc, &bytes),
+        Ok(bytes) => read_einj(alloc, &bytes),
         Err(refusal) => Err(refusal),
     }
 }
@@ -133,15 +123,4 @@ pub(crate) fn load_script<F: Files>(
         Ok(bytes) => read_lines(alloc, ghes.id, &bytes),
         Err(refusal) => Err(refusal),
     }
-}
-
-/// Loads the file of a block.
-pub(crate) fn load_block<F: Files>(
-    alloc: Global,
-    files: &mut F,
-    name: &str,
-) -> Result<Vec<u8>, Refusal>
-    ensures { LoadsFile (F.seen files.old) (F.seen files.new) kinds.Block name.now (bytes_of result) }
-{
-    load_file(alloc, files, InputFile::Block, name)
 }

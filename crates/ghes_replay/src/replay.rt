@@ -17,16 +17,13 @@ use ghes_outside::Files;
 use ghes_plain_script::Line;
 use std::alloc::Global;
 
-/// How many bytes a block has at most, whatever its source says.
-const BLOCK_LIMIT: u32 = 65536;
-
 // Replays the lines of a script on a source.
 fn replay_lines(alloc: Global, ghes: &Ghes, lines: &[Line]) -> Result<Done, Refusal>
     requires few { length lines.now < 2 ^ 32 }
     requires first { AllByRecursion (λ line. IsOfFirst line.what) lines.now }
     ensures { RunsLines ghes.now lines.now (done_of result) }
 {
-    match run_script(alloc, ghes.id, ghes.block_length.min(BLOCK_LIMIT), lines) {
+    match run_script(alloc, ghes.id, ghes.limit(), lines) {
         Ok(Replayed { ledger, text }) => Ok(Done {
             ledger: Some(ledger),
             text,

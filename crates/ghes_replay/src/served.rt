@@ -1,25 +1,18 @@
 //! Which source of a table a replay serves so far.
 ghost use Rattle.std.specs.Prelude.{◌≡◌};
-ghost use Rattle.ghes_replay.specs.Served.{has_wide_status, is_served, served};
+ghost use Rattle.ghes_replay.specs.Served.{is_served, served};
 
 use apei_base::Region;
 use apei_hest::{Ghes, Source};
-
-// Whether the status address register of a source is read in 32 or 64 bits.
-fn has_wide_status(ghes: &Ghes) -> bool
-    ensures { result ≡ has_wide_status ghes.now }
-{
-    match ghes.status.check() {
-        Ok(Region { width, .. }) => width == 32 || width == 64,
-        Err(_) => false,
-    }
-}
 
 // Whether a replay serves such a source.
 fn is_served(ghes: &Ghes) -> bool
     ensures { result ≡ is_served ghes.now }
 {
-    ghes.ack.is_none() && has_wide_status(ghes)
+    match ghes.status.check() {
+        Ok(Region { width, .. }) => ghes.ack.is_none() && (width == 32 || width == 64),
+        Err(_) => false,
+    }
 }
 
 /// The source of a table that a replay serves: the only enabled one, of version 1 and with a wide status address register.
