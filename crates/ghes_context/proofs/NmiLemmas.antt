@@ -1,5 +1,5 @@
 -- What a call answered and left is a call by what it saw.
-use Rattle.std.proofs.Common.{◌≡◌, ◌∙◌, ⊎_elim, ℕ, true, List, sym, ap, refl, subst, Some}
+use Rattle.std.proofs.Common.{◌≡◌, ◌∙◌, ⊎_elim, ℕ, ◌+◌, ◌≤◌, true, List, [], ◌∷◌, ◌++◌, length, length-append, arith, sym, ap, refl, subst, Some}
 use Rattle.std.specs.Prelude.{if◌then◌else◌, IfSome, slice_get}
 use Rattle.std.proofs.lemmas.Bool.{false≢true}
 use Rattle.apei_base.specs.Firmware.{Seen, cleared}
@@ -11,7 +11,9 @@ use Rattle.ghes_call.specs.declared.call.Outcome.TheVariants.{Nothing, Queued, M
 use Rattle.ghes_call.specs.declared.call.Reply.{Reply}
 use Rattle.ghes_rule.specs.declared.views.PacketView.{PacketView}
 use Rattle.ghes_rule.specs.declared.views.PassView.{PassView}
-use Rattle.ghes_rule.specs.Moves.{with_load}
+use Rattle.ghes_rule.specs.Finds.{after_finds}
+use Rattle.ghes_rule.specs.Kept.{turn}
+use Rattle.ghes_rule.specs.Moves.{with_load, with_claim}
 use Rattle.ghes_throttle.specs.Reports.{hit}
 use Rattle.ghes_throttle.specs.Shown.{Known}
 use Rattle.ghes_nmi.specs.Receive.{ack_seen}
@@ -21,7 +23,7 @@ use Rattle.ghes_context.specs.Context.{ContextSeen}
 use Rattle.ghes_context.specs.Ends.{is_stopped, is_no_slot, failure_by, left_by, ack_by, CountsCall, saw_by}
 use Rattle.ghes_context.specs.Found.{standing_image}
 use Rattle.ghes_context.specs.Nmi.{CountsFailure, IsNmi}
-use Rattle.ghes_context.specs.Told.{HasFoundAll, HasTold, standing_packet}
+use Rattle.ghes_context.specs.Told.{HasClaimed, HasFoundAll, HasTold, slot_spent, standing_packet}
 
 -- behind its load a call loads the panic word no more
 told_loads : (k : ℕ) (packet : PacketView) (v v' : PassView) (outcome : Outcome) → HasTold k packet v v' outcome → v'.loads ≡ v.loads
@@ -44,6 +46,36 @@ told_full k packet v v' (Malformed number reason) is full = absurd (false≢true
 told_full k packet v v' (Fatal number) is full = absurd (false≢true full)
 told_full k packet v v' NoSlot is full = is
 told_full k packet v v' Fault is full = absurd (false≢true full)
+
+-- a claim of a slot adds one claim, and nothing else adds any
+slot_claims : (outcome : Outcome) (slot turn : ℕ) (packet : PacketView) (v : PassView) → (slot_spent outcome slot turn packet v).claims ≡ v.claims
+slot_claims Nothing slot turn packet v = refl
+slot_claims Stopped slot turn packet v = refl
+slot_claims (Duplicate number report) slot turn packet v = refl
+slot_claims (Queued number) slot turn packet v = refl
+slot_claims (Malformed number reason) slot turn packet v = refl
+slot_claims (Fatal number) slot turn packet v = refl
+slot_claims NoSlot slot turn packet v = refl
+slot_claims Fault slot turn packet v = refl
+
+claimed_one : (k : ℕ) (packet : PacketView) (v v' : PassView) (outcome : Outcome) → HasClaimed k packet v v' outcome → length v'.claims ≤ length v.claims + 1
+claimed_one k packet v v' outcome is =
+    let claims : v'.claims ≡ v.claims ++ turn is.slot is.turn ∷ [] = ap (λ (z : PassView). z.claims) is.view ∙ slot_claims outcome is.slot is.turn packet (with_claim (after_finds v is.slot is.finds) is.slot is.turn) in
+    let one : length v'.claims ≡ length v.claims + 1 = ap length claims ∙ length-append v.claims (turn is.slot is.turn ∷ []) in
+    omega (arith, one)
+
+same_claims : (v v' : PassView) → v'.claims ≡ v.claims → length v'.claims ≤ length v.claims + 1
+same_claims v v' is = let same : length v'.claims ≡ length v.claims = ap length is in omega (arith, same)
+
+pub told_claims : (k : ℕ) (packet : PacketView) (v v' : PassView) (outcome : Outcome) → HasTold k packet v v' outcome → length v'.claims ≤ length v.claims + 1
+told_claims k packet v v' Nothing is = same_claims v v' (ap (λ (z : PassView). z.claims) is)
+told_claims k packet v v' Stopped is = same_claims v v' (ap (λ (z : PassView). z.claims) is)
+told_claims k packet v v' (Duplicate number report) is = same_claims v v' (ap (λ (z : PassView). z.claims) is)
+told_claims k packet v v' (Queued number) is = claimed_one k packet v v' (Queued number) is
+told_claims k packet v v' (Malformed number reason) is = claimed_one k packet v v' (Malformed number reason) is
+told_claims k packet v v' (Fatal number) is = same_claims v v' (ap (λ (z : PassView). z.claims) is)
+told_claims k packet v v' NoSlot is = same_claims v v' (ap (λ (z : PassView). z.claims) is.view)
+told_claims k packet v v' Fault is = ⊎_elim (λ same. same_claims v v' (ap (λ (z : PassView). z.claims) same)) (λ claimed. claimed_one k packet v v' Fault claimed) is
 
 -- the count rose where the acknowledgement failed
 ack_counted : (ack : AckState) (before after : ℕ) → CountsAck ack before after → CountsFailure (failure_of ack) before after

@@ -161,6 +161,8 @@ impl Context {
         ensures call { IfSome (slice_get self.old.sources source)
             (IsNmi shared.now.slots source now self.old self.new (P.seen port.old) (P.seen port.new) (P.faults port.old) (P.faults port.new) result) }
         ensures entered { IsEntered source now self.old self.new result }
+        ensures port { IsPortOf self.new source (P.seen port.new) }
+        ensures claims { length self.new.pass.view.claims ≤ length self.old.pass.view.claims + 1 }
         ensures room { self.old.room ≤ self.new.room }
         ensures cost { steps.new ≤ steps.old + shared.now.slots + 11 }
     {
