@@ -122,7 +122,7 @@ looks room n slots k id me same is s r deep at _ =
       pass_looks r id (2 * k + 1) v v' at' refl refl refl refl refl
           (counts_same (λ _ _. refl) (put_field (λ (z : PassView). z.claims) r.pass v.number v' (ap (λ (z : PassView). z.claims) (sym known.2))) (put_field (λ (z : PassView). z.found) r.pass v.number v' (ap (λ (z : PassView). z.found) (sym known.2))) r.counts)
           (panic_load r v.number v x known.2 known.0 x_is),
-      (panic_small r x x_is, refl),
+      (panic_small r x x_is, refl, λ y e. x_is ∙ r.panic.set v.number y known.0 (ap (λ (z : PassView). z.fatal) known.2 ∙ e)),
     )
 
 -- k10, by the decoder

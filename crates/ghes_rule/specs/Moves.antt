@@ -258,8 +258,9 @@ linked_up st m x m' = m' ≡ (OfPass (without_claim (pass_of m.0)), m.1)
 abbrev pub with_load : PassView → Bool → PassView
 with_load v b = record v { steps = v.steps + 1; loads = v.loads ++ b ∷ [] }
 
+-- a pass loaded the panic word: it is set at least where this pass has a fatal block
 abbrev pub looked : At → Sat → ℕ → Sat → Type 0
-looked st m x m' = (x ≤ 1) × (m' ≡ (OfPass (with_load (pass_of m.0) (x == 1)), m.1))
+looked st m x m' = (x ≤ 1) × (m' ≡ (OfPass (with_load (pass_of m.0) (x == 1)), m.1)) × ((y : PacketView) → (pass_of m.0).fatal ≡ Some y → x ≡ 1)
 
 -- the decoder with one more load of the panic word
 abbrev pub with_look : WorkView → Bool → WorkView

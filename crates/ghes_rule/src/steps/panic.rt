@@ -1,5 +1,6 @@
 //! The panic word: a pass sets it for its fatal block, and passes and decoder load it.
-ghost use Rattle.std.specs.Prelude.{◌≡◌, ◌+◌, None};
+ghost use Rattle.std.specs.Prelude.{◌≡◌, ◌+◌, true, Some, None};
+ghost use Rattle.ghes_rule.specs.declared.views.PacketView.{PacketView};
 ghost use Rattle.ghes_rule.specs.declared.views.Stage.TheVariants.{Idle};
 ghost use Rattle.ghes_rule.specs.Kept.{packet_view};
 ghost use Rattle.ghes_rule.specs.Moves.{with_load, with_look, with_fatal, SettledIf};
@@ -13,12 +14,13 @@ use ghes_steps::Steps;
 use std::marker::Brand;
 use std::sync::ledger::Ledger;
 
-/// Whether the panic word is set, by one load of a pass.
+/// Whether the panic word is set, by one load of a pass. It is where this pass has a fatal block.
 ///
 /// After Linux 6.1, drivers/acpi/apei/ghes.c, where a fatal block ends the machine. That others look is an own choice.
 pub fn stopped<L: Ledger>(shared: &Shared, pass: Pass, steps: &mut Steps<L>) -> (Pass, bool)
     requires belongs { pass.table ≡ shared.now }
     ensures pass { result.0 ≡ record pass { view = with_load pass.view result.1 } }
+    ensures own { (x : PacketView) → pass.view.fatal ≡ Some x → result.1 ≡ true }
     ensures cost { steps.new ≡ steps.old + 1 }
 {
     let mut pass = pass;
@@ -30,6 +32,7 @@ pub fn stopped<L: Ledger>(shared: &Shared, pass: Pass, steps: &mut Steps<L>) -> 
 fn look<L: Ledger>(shared: &Shared, pass: &mut Pass, steps: &mut Steps<L>) -> bool
     requires belongs { pass.old.table ≡ shared.now }
     ensures pass { pass.new ≡ record pass.old { view = with_load pass.old.view result } }
+    ensures own { (x : PacketView) → pass.old.view.fatal ≡ Some x → result ≡ true }
     ensures cost { steps.new ≡ steps.old + 1 }
 {
     steps.tick();

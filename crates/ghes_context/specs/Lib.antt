@@ -1,0 +1,5 @@
+pub mod Context
+pub mod Ends
+pub mod Found
+pub mod Nmi
+pub mod Told
