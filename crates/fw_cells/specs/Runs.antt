@@ -1,5 +1,5 @@
 -- Cells in runs: where they stand, which byte is in which cell, and what it means that runs are in order.
-use Rattle.std.specs.Prelude.{◌≡◌, ◌≤◌, ◌<◌, ℕ, ◌+◌, ◌-◌, ◌^◌, Bool, ◌&&◌, nat_lt, nat_le, if◌then◌else◌, List, [], ◌∷◌, length, slice_index, slice_index_or, Option, Some, None, IsTrue}
+use Rattle.std.specs.Prelude.{◌≤◌, ◌<◌, ℕ, ◌+◌, ◌-◌, ◌^◌, Bool, ◌&&◌, nat_lt, nat_le, if◌then◌else◌, List, [], ◌∷◌, length, slice_index, slice_index_or, Some, None, IsTrue}
 use Rattle.apei_base.specs.Bus.{Cells, same_space}
 use Rattle.apei_base.specs.declared.region.Space.{Space}
 use Rattle.apei_base.specs.declared.region.Space.TheVariants.{Memory, Port}

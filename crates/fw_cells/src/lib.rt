@@ -9,6 +9,8 @@ mod finding;
 mod look;
 mod run;
 mod span;
+#[cfg(test)]
+mod tests;
 
 pub use cells::Cells;
 pub use run::CellRun;

@@ -43,8 +43,9 @@ fn show(block: &[u8], area: &mut [u8])
     ensures { area.new ≡ shown 0 (length area.old) block.now }
 {
     let count = block.len().min(area.len());
-    area[..count].copy_from_slice(&block[..count]);
-    area[count..].fill(0);
+    let (front, back) = area.split_at_mut(count);
+    front.copy_from_slice(&block[..count]);
+    back.fill(0);
 }
 
 // The same in an area that is a part of some bytes.

@@ -69,16 +69,16 @@ fn joined_spans(alloc: Global, spans: &[Span]) -> Result<Vec<Span>, AllocError>
     let Some((first, rest)) = spans.split_first() else {
         return Ok(joined);
     };
-    let mut open = *first;
+    let mut held = *first;
     for next in rest {
-        if next.start <= open.end {
-            open.end = open.end.max(next.end);
+        if next.start <= held.end {
+            held.end = held.end.max(next.end);
         } else {
-            joined.push(open)?;
-            open = *next;
+            joined.push(held)?;
+            held = *next;
         }
     }
-    joined.push(open)?;
+    joined.push(held)?;
     Ok(joined)
 }
 
