@@ -1,0 +1,6 @@
+pub mod ChangeLemmas
+pub mod FindLemmas
+pub mod LookLemmas
+pub mod RunLemmas
+pub mod ShownLemmas
+pub mod SpanLemmas
