@@ -1,0 +1,6 @@
+pub mod Map
+pub mod Overlap
+pub mod Placement
+pub mod Registers
+pub mod Runs
+pub mod Text

@@ -1,0 +1,12 @@
+//! The memory map of a simulated machine as its tables describe it: whose each register is, where the areas stand in
+//! which the firmware puts its blocks, and which cells are mapped. Tables whose registers cannot be told apart are
+//! refused, by the owners and the cell.
+#![tactic(auto)]
+
+mod error;
+mod map;
+mod run;
+
+pub use error::{FwError, Owner};
+pub use map::{Map, Trigger};
+pub use run::{Register, Run};
