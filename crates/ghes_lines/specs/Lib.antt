@@ -1,0 +1,4 @@
+pub mod Call
+pub mod Found
+pub mod Pending
+pub mod Port
