@@ -9,7 +9,8 @@ use crate::{Bus, BusFault, Region};
 ///
 /// It has a status address register, an area where blocks stand one after another, and a read ack register where the
 /// source is of version 2.
-/// Source: ACPI 6.5, 18.3.2.7 and 18.3.2.8. That one write of 0 clears a block: After Linux 6.1, drivers/acpi/apei/ghes.c.
+/// Source: ACPI 6.5, 18.3.2.7 and 18.3.2.8. That one write of 0 clears a block: After Linux 6.1,
+/// drivers/acpi/apei/ghes.c.
 pub trait Firmware: Bus {
     /// What the memory means.
     ghost seen: { Self → Seen };
@@ -18,7 +19,8 @@ pub trait Firmware: Bus {
     ghost same: { (one other : Self) → Self.state one ≡ Self.state other → seen one ≡ seen other };
 
     /// What an access answers, and what it leaves.
-    ghost moves: { (before after : Self) (access : Access) → Self.step (Self.state before) access (Self.state after)
+    ghost moves: { (before after : Self) (access : Access)
+        → Self.step (Self.state before) access (Self.state after)
         → IsAnswered access (seen before) × (seen after ≡ after_access access (seen before)) };
 
     /// A read and a copy leave the cells.

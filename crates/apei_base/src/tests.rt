@@ -181,5 +181,10 @@ fn each_refusal_prints_its_number_and_its_words(rt: HostRuntime) -> Result<(), F
 fn copied_bytes_are_the_bytes(rt: HostRuntime) -> Result<(), Fail> {
     let bytes = Bytes::copy(rt.alloc(), &[1, 2, 3])?;
     assert_eq!(rt; bytes.as_slice(), [1, 2, 3].as_slice());
+    // A table of 1 MiB.
+    let mut table = Vec::new(rt.alloc());
+    table.resize(1_048_576, 7u8)?;
+    let bytes = Bytes::copy(rt.alloc(), &table)?;
+    assert!(rt; bytes.as_slice() == table.as_slice());
     Ok(())
 }

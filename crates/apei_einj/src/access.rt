@@ -40,7 +40,7 @@ pub(crate) fn take<B: Bus>(
     Ok(())
 }
 
-/// The same, in no access where `into` has no room.
+/// Copies memory from `address + skip` on, as many bytes as `into` has, and makes no access where it has no room.
 pub(crate) fn take_any<B: Bus>(
     bus: &mut B,
     address: u64,

@@ -86,10 +86,10 @@ fn inject_by<B: Bus>(
 impl Einj {
     /// Injects an error.
     ///
-    /// The machine is asked which types it can inject, is told the type and the place, and is told to inject. It is then
-    /// waited for, at most 1,000 times, and asked for its status. Then the entries of the trigger table that it names are
-    /// run, and it is told the end. The first refusal or failed access ends all: what came before it was done, and nothing
-    /// after it. The call takes no memory.
+    /// The machine is asked which types it can inject, is told the type and the place, and is told to inject. It is
+    /// then waited for, at most 1,000 times, and asked for its status. Then the entries of the trigger table that it
+    /// names are run, and it is told the end. The first refusal or failed access ends all: what came before it was
+    /// done, and nothing after it. The call takes no memory.
     /// Source: ACPI 6.5, 18.6.6; the order: After Linux 6.1, drivers/acpi/apei/einj.c.
     pub fn inject<B: Bus>(&self, request: &Request, bus: &mut B) -> Result<Injected, InjectError>
         ensures does { Injects B.step self.now request.now

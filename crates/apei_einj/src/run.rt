@@ -55,8 +55,8 @@ pub(crate) fn run_entries<B: Bus>(
 impl Einj {
     /// Runs the entries of an action on a value, and gives the value that they leave.
     ///
-    /// An action with no entries, as each above 8, gives the value back. After an error the entries before the failed access have run,
-    /// and none after it. The call takes no memory.
+    /// An action with no entries, as each above 8, gives the value back. After an error the entries before the failed
+    /// access have run, and none after it. The call takes no memory.
     /// Source: ACPI 6.5, 18.6.3.
     pub fn run_action<B: Bus>(&self, action: u8, value: u64, bus: &mut B) -> Result<u64, RunError>
         ensures ok { IfOk result (λ next. Runs B.step (of_action action self.now) value

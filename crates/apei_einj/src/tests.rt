@@ -28,6 +28,9 @@ const ENTRIES: &str = "000400000000000000000000000000000000000000000000000000000
 // A second entry of action 3, which is like the one of the sample.
 const SECOND_3: &str = "03000000002000030c00007e000000000000000000000000ffffffff00000000";
 
+// An entry of action 0 that does nothing.
+const IDLE: &str = "0004000000000000000000000000000000000000000000000000000000000000";
+
 // An entry of action 9 whose instruction and register are unknown.
 const UNKNOWN: &str = "0907000005ffffffffffffffffffffff00000000000000000000000000000000";
 
@@ -51,11 +54,19 @@ fn changed(alloc: Global, at: usize, value: &[u8], checksum: u8) -> Result<Vec<u
     Ok(bytes)
 }
 
-// The sample with a tenth entry behind its nine, and this checksum.
-fn with_tenth(alloc: Global, entry: &str, checksum: u8) -> Result<Vec<u8>, Fail> {
-    let mut bytes = changed(alloc, 44, &[10], checksum)?;
-    put(&mut bytes, 4, &[0x70]);
-    bytes.extend_from_slice(&hex::decode(alloc, entry)?)?;
+// An entry, and how often it stands behind the nine of the sample; the bytes of the table's length, of its count, and its
+// checksum; and how many entries are kept.
+type More = (&'static str, usize, &'static [u8], &'static [u8], u8, usize);
+
+// The sample with more entries.
+fn with_more(alloc: Global, more: &More) -> Result<Vec<u8>, Fail> {
+    let (entry, times, length, count, checksum, _kept) = *more;
+    let mut bytes = changed(alloc, 44, count, checksum)?;
+    put(&mut bytes, 4, length);
+    let entry = hex::decode(alloc, entry)?;
+    for _ in 0..times {
+        bytes.extend_from_slice(&entry)?;
+    }
     Ok(bytes)
 }
 
@@ -65,11 +76,6 @@ fn told(alloc: Global, bytes: &[u8]) -> Result<String, Fail> {
         Ok(_) => Ok("accepted".to_string(alloc)?),
         Err(error) => Ok(error.to_string(alloc)?),
     }
-}
-
-// Where the anchor of an action begins.
-fn anchor_at(einj: &Einj, action: u8) -> Option<u32> {
-    Some(einj.anchor(action)?.at)
 }
 
 // Two entries of the sample, each with all its fields.
@@ -119,6 +125,21 @@ const ANCHORS: [(u8, Option<u32>); 10] = [
     (9, None),
 ];
 
+// A second entry of an action is no anchor, one of an unknown action is passed over, and there is room for many: 32,713
+// entries are a table of 1,046,864 bytes.
+const MORE: [More; 3] = [
+    (SECOND_3, 1, &[0x70], &[10], 0xa4, 10),
+    (UNKNOWN, 1, &[0x70], &[10], 0x46, 9),
+    (
+        IDLE,
+        32_704,
+        &[0x50, 0xf9, 0x0f],
+        &[0xc9, 0x7f],
+        0x2b,
+        32_713,
+    ),
+];
+
 #[test]
 fn the_sample_gives_its_entries_and_their_anchors(rt: HostRuntime) -> Result<(), Fail> {
     let einj = Einj::read(rt.alloc(), &changed(rt.alloc(), 44, &[9], 0x71)?)?;
@@ -126,13 +147,14 @@ fn the_sample_gives_its_entries_and_their_anchors(rt: HostRuntime) -> Result<(),
     assert_eq!(rt; einj.entries().get(5).copied(), Some(EXECUTE));
     assert_eq!(rt; einj.entries().get(6).copied(), Some(CHECK_BUSY));
     for (action, want) in &ANCHORS {
-        assert_eq!(rt; anchor_at(&einj, *action), *want, "of action {action}");
+        let at = einj.anchor(*action).map(|anchor| anchor.at);
+        assert_eq!(rt; at, *want, "of action {action}");
     }
-    // A second entry of an action is no anchor, and one of an unknown action is passed over.
-    for (entry, checksum, count) in [(SECOND_3, 0xa4, 10usize), (UNKNOWN, 0x46, 9)] {
-        let einj = Einj::read(rt.alloc(), &with_tenth(rt.alloc(), entry, checksum)?)?;
-        assert_eq!(rt; einj.entries().len(), count, "{entry}");
-        assert_eq!(rt; anchor_at(&einj, 3), Some(144), "{entry}");
+    for more in &MORE {
+        let einj = Einj::read(rt.alloc(), &with_more(rt.alloc(), more)?)?;
+        assert_eq!(rt; einj.entries().len(), more.5, "{}", more.0);
+        let at = einj.anchor(3).map(|anchor| anchor.at);
+        assert_eq!(rt; at, Some(144), "{}", more.0);
     }
     Ok(())
 }

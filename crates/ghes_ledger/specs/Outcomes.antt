@@ -1,5 +1,6 @@
 -- What an outcome says of the block that stood.
 use Rattle.std.specs.Prelude.{ℕ, Bool, true, false, List, [], ◌∷◌}
+pub use Rattle.ghes_call.specs.Call.{acknowledges}
 use Rattle.ghes_call.specs.declared.call.Outcome.{Outcome}
 use Rattle.ghes_call.specs.declared.call.Outcome.TheVariants.{Queued, Malformed, Duplicate, Fatal, Fault, Stopped}
 use Rattle.ghes_call.specs.declared.call.AckState.{AckState}
@@ -23,14 +24,6 @@ pending_number _ = []
 abbrev pub fatal_number : Outcome → List ℕ
 fatal_number (Fatal number) = number ∷ []
 fatal_number _ = []
-
--- a block was acknowledged
-abbrev pub acknowledges : Outcome → Bool
-acknowledges (Queued number) = true
-acknowledges (Malformed number reason) = true
-acknowledges (Duplicate number report) = true
-acknowledges (Fatal number) = true
-acknowledges _ = false
 
 -- the context makes no further call in its line
 abbrev pub ends_turns : Outcome → Bool

@@ -22,7 +22,7 @@ use Rattle.ghes_ledger.proofs.OrderLemmas.{same_count}
 use Rattle.ghes_ledger.proofs.Serial.{Keeps, keeps_queued, keeps_other, keeps_fatal}
 use Rattle.ghes_ledger.proofs.StepLemmas.{call_line, lawful_call, image_pushed}
 use Rattle.ghes_serial.specs.declared.execute.Replay.{Replay}
-use Rattle.ghes_serial.specs.Call.{block_of, is_full, outcome_by, outcome_of, blocks_after, packet_for, pending_after, fatal_after, call_at}
+use Rattle.ghes_serial.specs.Call.{block_of, is_full, outcome_by, outcome_without_look, blocks_after, packet_for, pending_after, fatal_after, call_at}
 use Rattle.ghes_serial.specs.Execute.{panic_after, left_by, answered, marked}
 use Rattle.ghes_serial.specs.Lines.{one_source}
 use Rattle.ghes_serial.proofs.Follows.{Follows, none_fatal, unstopped, tells_more}
@@ -157,7 +157,7 @@ left_standing None false true n history state block empty some = absurd (some (m
 left_standing None false false n history state block empty some = absurd (some (mild history _ refl empty))
 
 -- after a call, by the block that stands
-pub follows_call : (id number : ℕ) (stands : Option (List ℕ)) (history : List Executed) (state : Replay) → block_of state.blocks ≡ stands → state.ledger.panic ≡ [] → Follows (plan_of id state) history state → Follows (plan_of id state) (call_line number 0 (call_at 0 (outcome_of state.limit stands (is_full state.pending) (state.blocks.acknowledged + 1))) ∷ history) (marked number (answered (outcome_of state.limit stands (is_full state.pending) (state.blocks.acknowledged + 1)) stands 0 state))
+pub follows_call : (id number : ℕ) (stands : Option (List ℕ)) (history : List Executed) (state : Replay) → block_of state.blocks ≡ stands → state.ledger.panic ≡ [] → Follows (plan_of id state) history state → Follows (plan_of id state) (call_line number 0 (call_at 0 (outcome_without_look state.limit stands (is_full state.pending) (state.blocks.acknowledged + 1))) ∷ history) (marked number (answered (outcome_without_look state.limit stands (is_full state.pending) (state.blocks.acknowledged + 1)) stands 0 state))
 follows_call id number None history state stands none f =
     let plan = plan_of id state in
     let P : List PanicEntry → Type 0 = λ panic. Keeps plan (call_line number 0 (call_at 0 Nothing) ∷ history) state.pending panic in

@@ -4,28 +4,25 @@ use Rattle.cper_block.specs.declared.malformed.Malformed.{Malformed as Reason}
 use Rattle.ghes_call.specs.declared.call.AckState.TheVariants.{NotAsked}
 use Rattle.ghes_call.specs.declared.call.Call.{Call}
 use Rattle.ghes_call.specs.declared.call.Outcome.{Outcome}
-use Rattle.ghes_call.specs.declared.call.Outcome.TheVariants.{Nothing, Queued, Malformed, Fatal, NoSlot}
+use Rattle.ghes_call.specs.declared.call.Outcome.TheVariants.{Queued, Malformed, Fatal}
+use Rattle.ghes_call.specs.Call.{outcome_of_image, outcome_of_block}
 use Rattle.ghes_call.specs.Packet.{PacketSeen}
-use Rattle.cper_block.specs.Image.{image_of, image_reason, is_fatal}
+use Rattle.cper_block.specs.Image.{image_of, image_reason}
 use Rattle.ghes_serial.specs.Blocks.{Raised}
 
 -- each slot is taken (own choice: 16 slots)
 abbrev pub is_full : List PacketSeen → Bool
 is_full pending = nat_le 16 (length pending)
 
--- The outcome for a block that stands, by why its image is malformed, whether that is fatal, whether each slot is taken,
--- and its number: a well-formed fatal block needs no slot.
+-- the outcome for a block that stands, by why its image is malformed, whether that is fatal, whether each slot is taken, and
+-- its number; no report is looked for
 abbrev pub outcome_by : Option Reason → Bool → Bool → ℕ → Outcome
-outcome_by (Some reason) fatal true number = NoSlot
-outcome_by (Some reason) fatal false number = Malformed number reason
-outcome_by None true full number = Fatal number
-outcome_by None false true number = NoSlot
-outcome_by None false false number = Queued number
+outcome_by reason fatal full number = outcome_of_image number reason fatal None full
 
--- The outcome of a call, by the limit of the source, the block that stands, whether each slot is taken, and that block's number.
-abbrev pub outcome_of : ℕ → Option (List ℕ) → Bool → ℕ → Outcome
-outcome_of limit None full number = Nothing
-outcome_of limit (Some block) full number = outcome_by (image_reason limit block) (is_fatal (image_of limit block)) full number
+-- the outcome of a call that looks for no report, by the limit of the source, the block that stands, whether each slot is
+-- taken, and that block's number
+abbrev pub outcome_without_look : ℕ → Option (List ℕ) → Bool → ℕ → Outcome
+outcome_without_look limit standing full number = outcome_of_block limit number standing None full
 
 -- the block that stands: the first that was raised and not acknowledged
 abbrev pub block_of : Raised → Option (List ℕ)

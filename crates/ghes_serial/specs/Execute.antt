@@ -7,7 +7,7 @@ use Rattle.ghes_ledger.specs.Asks.{Asks, Makes, Calls, Drains, Ends}
 use Rattle.ghes_ledger.specs.History.{Act}
 use Rattle.ghes_ledger.specs.Kept.{Kept, with_taken, panic_entry, mark_of}
 use Rattle.ghes_serial.specs.declared.execute.Replay.{Replay}
-use Rattle.ghes_serial.specs.Call.{block_of, is_full, outcome_of, blocks_after, pending_after, fatal_after, call_at}
+use Rattle.ghes_serial.specs.Call.{block_of, is_full, outcome_without_look, blocks_after, pending_after, fatal_after, call_at}
 
 -- the ledger after these packets were taken at time 0, without a look at the reports
 abbrev pub drained : List PacketSeen → Kept → Kept
@@ -20,7 +20,7 @@ panicked packets kept = record kept { panic = kept.panic ++ map (panic_entry fal
 
 -- the outcome of a call now
 abbrev pub outcome_now : Replay → Outcome
-outcome_now replay = outcome_of replay.limit (block_of replay.blocks) (is_full replay.pending) (replay.blocks.acknowledged + 1)
+outcome_now replay = outcome_without_look replay.limit (block_of replay.blocks) (is_full replay.pending) (replay.blocks.acknowledged + 1)
 
 -- after firmware raised a block
 abbrev pub raised : List ℕ → Replay → Replay

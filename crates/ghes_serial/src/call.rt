@@ -3,7 +3,7 @@ ghost use Rattle.std.specs.Prelude.{◌≡◌, ◌<◌, ◌+◌, ◌^◌, length
 ghost use Rattle.cper_block.specs.Image.{image_of, is_fatal};
 ghost use Rattle.std.specs.Option.{option_map};
 ghost use Rattle.ghes_call.specs.Packet.{seen_of};
-ghost use Rattle.ghes_serial.specs.Call.{block_of, is_full, outcome_by, outcome_of, IsFor, packet_for, blocks_after, with_queued, fatal_by, pending_after, fatal_after};
+ghost use Rattle.ghes_serial.specs.Call.{block_of, is_full, outcome_by, outcome_without_look, IsFor, packet_for, blocks_after, with_queued, fatal_by, pending_after, fatal_after};
 
 use crate::blocks::Blocks;
 use crate::pending::Pending;
@@ -102,7 +102,7 @@ pub(crate) fn call(
 ) -> Result<Answer, AllocError>
     requires { length blocks.old.made < 2 ^ 32 }
     ensures outcome { IfOk result (λ answer. answer.outcome
-        ≡ outcome_of limit (block_of blocks.old) (is_full pending.old)
+        ≡ outcome_without_look limit (block_of blocks.old) (is_full pending.old)
         (blocks.old.acknowledged + 1)) }
     ensures blocks { IfOk result (λ answer. blocks.new ≡ blocks_after answer.outcome blocks.old) }
     ensures pending { IfOk result (λ answer. pending.new

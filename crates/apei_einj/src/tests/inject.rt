@@ -1,10 +1,10 @@
 // Injections on the machine of the sample. What is wanted was worked out by hand.
 use super::changed;
 use super::machine::{
-    Asked, DONE, ERROR_TYPE, EXECUTED, End, FIRST, IN_MEMORY, NOWHERE, STATUS, Slow, TRIGGER,
-    TYPES, machine, request,
+    DONE, ERROR_TYPE, EXECUTED, End, FIRST, IN_MEMORY, NOWHERE, STATUS, Slow, TRIGGER, TYPES,
+    machine,
 };
-use crate::{Einj, InjectError, Injected, is_error_type};
+use crate::{Einj, InjectError, Injected, Request, is_error_type};
 use apei_base::{Bus, Region, Space};
 use apei_mem_bus::Faulty;
 use std::alloc::Global;
@@ -23,12 +23,12 @@ fn told(
     alloc: Global,
     einj: &Einj,
     (register, value): (u64, u64),
-    asked: Asked,
+    asked: &Request,
 ) -> Result<(End, u64, [u64; 4]), Fail> {
     let mut inner = machine(alloc)?;
     inner.write(&Region::memory(register, 32), value)?;
     let mut bus = Faulty::new(alloc, inner, &[])?;
-    let end = einj.inject(&request(asked)?, &mut bus);
+    let end = einj.inject(asked, &mut bus);
     let accesses = bus.accesses();
     let mut inner = bus.into_inner();
     let cells = [
@@ -47,7 +47,7 @@ const WITHOUT_8: (u8, u8) = (9, 0x70);
 
 // The table, what a register holds, and what is asked; and what is told.
 #[rattlefmt::skip]
-const ENDS: [((u8, u8), (u64, u64), Asked, (End, u64, [u64; 4])); 9] = [
+const ENDS: [((u8, u8), (u64, u64), Request, (End, u64, [u64; 4])); 9] = [
     (WHOLE, (STATUS, 0), IN_MEMORY, (DONE, 14, [0, 8, 0x9a, 1])),
     (WHOLE, (STATUS, 0), NOWHERE, (DONE, 14, [0, 8, 0x9a, 1])),
     (WITHOUT_8, (STATUS, 0), NOWHERE, (DONE, 9, [8, 0, 0x9a, 1])),
@@ -67,7 +67,7 @@ fn waited(alloc: Global, einj: &Einj, busy: u32) -> Result<(End, u64), Fail> {
         inner: machine(alloc)?,
         busy,
     };
-    let end = einj.inject(&request(IN_MEMORY)?, &mut bus);
+    let end = einj.inject(&IN_MEMORY, &mut bus);
     Ok((end, bus.read(&FIRST)?))
 }
 
@@ -78,7 +78,7 @@ fn an_injection_ends_at_the_first_refusal_and_waits_999_times(rt: HostRuntime) -
             rt.alloc(),
             &changed(rt.alloc(), 304, &[*action], *checksum)?,
         )?;
-        let told = told(rt.alloc(), &einj, *held, *asked)?;
+        let told = told(rt.alloc(), &einj, *held, asked)?;
         assert_eq!(rt; told, *want, "{held:?} {asked:?}");
     }
     let einj = Einj::read(rt.alloc(), &changed(rt.alloc(), 44, &[9], 0x71)?)?;

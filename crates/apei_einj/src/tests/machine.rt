@@ -2,7 +2,7 @@
 ghost use Rattle.std.specs.Prelude.{None};
 ghost use Rattle.apei_mem_bus.specs.MemBus.{failed_of};
 
-use crate::{InjectError, Injected, Place, Request, is_error_type};
+use crate::{InjectError, Injected, Place, Request};
 use apei_base::{Bus, BusFault, Region, Space};
 use apei_mem_bus::MemBus;
 use std::alloc::Global;
@@ -54,27 +54,19 @@ pub(super) const ERROR_TYPE: Region = Region {
     width: 32,
 };
 
-// An error type and a place, of which a request is made.
-pub(super) type Asked = (u32, Place);
-
 // A correctable error of memory, in memory and where the firmware chooses.
-pub(super) const IN_MEMORY: Asked = (
-    8,
-    Place::Memory {
+pub(super) const IN_MEMORY: Request = Request {
+    error: 8,
+    place: Place::Memory {
         address: 0x12_3456_7000,
         mask: 0xffff_ffff_ffff_f000,
     },
-);
+};
 
-pub(super) const NOWHERE: Asked = (8, Place::Nowhere);
-
-// The request of them. A number that is no error type is refused as one that no machine has.
-pub(super) fn request((error, place): Asked) -> Result<Request, InjectError> {
-    if !is_error_type(error) {
-        return Err(InjectError::NotAvailable);
-    }
-    Ok(Request { error, place })
-}
+pub(super) const NOWHERE: Request = Request {
+    error: 8,
+    place: Place::Nowhere,
+};
 
 // What an injection ends with.
 pub(super) type End = Result<Injected, InjectError>;
@@ -100,18 +92,7 @@ fn write_entry(bus: &mut MemBus, index: u8, piece: &Piece) -> Result<(), BusFaul
     bus.write(&Region::memory(at + 24, 64), 0xffff_ffff)
 }
 
-// Writes the trigger table, with two entries.
-fn write_table(bus: &mut MemBus, header: &Header, pieces: &[Piece; 2]) -> Result<(), BusFault> {
-    let (header_size, revision, size, count) = *header;
-    bus.write(&Region::memory(TABLE, 32), u64::from(header_size))?;
-    bus.write(&Region::memory(TABLE + 4, 32), u64::from(revision))?;
-    bus.write(&Region::memory(TABLE + 8, 32), u64::from(size))?;
-    bus.write(&Region::memory(TABLE + 12, 32), u64::from(count))?;
-    write_entry(bus, 0, &pieces[0])?;
-    write_entry(bus, 1, &pieces[1])
-}
-
-// The machine with this trigger table: it has all types, and all else is 0.
+// The machine with this trigger table, of two entries: it has all types, and all else is 0.
 pub(super) fn with_table(
     alloc: Global,
     header: &Header,
@@ -120,7 +101,13 @@ pub(super) fn with_table(
     let mut bus = MemBus::new(alloc, &RUNS, &[])?;
     bus.write(&Region::memory(TRIGGER, 64), TABLE)?;
     bus.write(&Region::memory(TYPES, 32), 0xfff)?;
-    write_table(&mut bus, header, pieces)?;
+    let (header_size, revision, size, count) = *header;
+    bus.write(&Region::memory(TABLE, 32), u64::from(header_size))?;
+    bus.write(&Region::memory(TABLE + 4, 32), u64::from(revision))?;
+    bus.write(&Region::memory(TABLE + 8, 32), u64::from(size))?;
+    bus.write(&Region::memory(TABLE + 12, 32), u64::from(count))?;
+    write_entry(&mut bus, 0, &pieces[0])?;
+    write_entry(&mut bus, 1, &pieces[1])?;
     Ok(bus)
 }
 

@@ -39,19 +39,6 @@ fn entry_of(row: &Row) -> Entry {
     }
 }
 
-// The eight cells as one region, in memory or in the ports.
-fn cells(space: u8) -> Region {
-    Region {
-        space: if space == 1 {
-            Space::Port
-        } else {
-            Space::Memory
-        },
-        address: PLACE,
-        width: 64,
-    }
-}
-
 // Runs an entry on a value where the cells hold a number. Gives the value and the number then, if it is not refused.
 fn run(alloc: Global, entry: &Entry, cell: u64, value: u64) -> Result<Option<(u64, u64)>, Fail> {
     let runs = [(Space::Memory, PLACE, 8), (Space::Port, PLACE, 8)];
@@ -59,7 +46,11 @@ fn run(alloc: Global, entry: &Entry, cell: u64, value: u64) -> Result<Option<(u6
     if entry.refusal().is_some() {
         return Ok(None);
     }
-    let place = cells(entry.register.space);
+    // The eight cells as one region, in memory or in the ports.
+    let mut place = Region::memory(PLACE, 64);
+    if entry.register.space == 1 {
+        place.space = Space::Port;
+    }
     bus.write(&place, cell)?;
     let next = run_entry(entry, value, &mut bus)?;
     Ok(Some((next, bus.read(&place)?)))

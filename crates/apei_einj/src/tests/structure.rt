@@ -1,9 +1,7 @@
 // The address structure that an injection writes, and how much of it stands where an access fails.
 use super::changed;
-use super::machine::{
-    Asked, DONE, ERROR_TYPE, EXECUTED, End, FIRST, IN_MEMORY, NOWHERE, machine, request,
-};
-use crate::{Einj, InjectError, Place};
+use super::machine::{DONE, ERROR_TYPE, EXECUTED, End, FIRST, IN_MEMORY, NOWHERE, machine};
+use crate::{Einj, InjectError, Place, Request};
 use apei_base::{Bus, Region, Space};
 use apei_mem_bus::{Faulty, MemBus};
 use std::alloc::Global;
@@ -44,9 +42,9 @@ fn full(alloc: Global) -> Result<MemBus, Fail> {
 }
 
 // The words of the address structure behind an injection.
-fn words(alloc: Global, einj: &Einj, asked: Asked) -> Result<[u64; 7], Fail> {
+fn words(alloc: Global, einj: &Einj, asked: &Request) -> Result<[u64; 7], Fail> {
     let mut bus = full(alloc)?;
-    einj.inject(&request(asked)?, &mut bus)?;
+    einj.inject(asked, &mut bus)?;
     let mut words = [0; 7];
     for index in 0..7usize {
         words[index] = bus.read(&WORDS[index])?;
@@ -57,10 +55,10 @@ fn words(alloc: Global, einj: &Einj, asked: Asked) -> Result<[u64; 7], Fail> {
 // The words of each place. The vendor's offset is not written. The PCIe function is that of segment 0xa5, bus 0x17,
 // device 3 and function 2.
 #[rattlefmt::skip]
-const PLACES: [(Asked, [u64; 7]); 4] = [
+const PLACES: [(Request, [u64; 7]); 4] = [
     (IN_MEMORY, [8, HELD, 2, 0, 0x12_3456_7000, 0xffff_ffff_ffff_f000, 0]),
-    ((1, Place::Processor(0xfedc_ba98)), [1, HELD, 1, 0xfedc_ba98, 0, 0, 0]),
-    ((0x40, Place::Pcie(0xa517_1a00)), [0x40, HELD, 4, 0, 0, 0, 0xa517_1a00]),
+    (Request { error: 1, place: Place::Processor(0xfedc_ba98) }, [1, HELD, 1, 0xfedc_ba98, 0, 0, 0]),
+    (Request { error: 0x40, place: Place::Pcie(0xa517_1a00) }, [0x40, HELD, 4, 0, 0, 0, 0xa517_1a00]),
     (NOWHERE, [8, HELD, 0, 0, 0, 0, 0]),
 ];
 
@@ -79,7 +77,7 @@ const WRITES: [(u64, Region, u64, u64); 8] = [
 // What an injection ends with where the access of a number fails, how many there were, and the machine then.
 fn cut_off(alloc: Global, einj: &Einj, number: u64) -> Result<(End, u64, MemBus), Fail> {
     let mut bus = Faulty::new(alloc, full(alloc)?, &[number])?;
-    let end = einj.inject(&request(IN_MEMORY)?, &mut bus);
+    let end = einj.inject(&IN_MEMORY, &mut bus);
     Ok((end, bus.accesses(), bus.into_inner()))
 }
 
@@ -89,7 +87,7 @@ fn an_injection_writes_the_words_of_its_place_up_to_the_access_that_fails(
 ) -> Result<(), Fail> {
     let einj = Einj::read(rt.alloc(), &changed(rt.alloc(), 44, &[9], 0x71)?)?;
     for (asked, want) in &PLACES {
-        let told = words(rt.alloc(), &einj, *asked)?;
+        let told = words(rt.alloc(), &einj, asked)?;
         assert_eq!(rt; told, *want, "{asked:?}");
     }
     for number in 1..16 {

@@ -1,6 +1,6 @@
 // Trigger tables that are refused, and those beside them that are run. What is wanted was worked out by hand.
 use super::changed;
-use super::machine::{DONE, End, FIRST, Header, IN_MEMORY, Piece, SECOND, request, with_table};
+use super::machine::{DONE, End, FIRST, Header, IN_MEMORY, Piece, SECOND, with_table};
 use crate::{Einj, InjectError};
 use apei_base::Bus;
 use std::alloc::Global;
@@ -14,7 +14,7 @@ fn told(
     pieces: &[Piece; 2],
 ) -> Result<(End, u64, u64), Fail> {
     let mut bus = with_table(alloc, header, pieces)?;
-    let end = einj.inject(&request(IN_MEMORY)?, &mut bus);
+    let end = einj.inject(&IN_MEMORY, &mut bus);
     Ok((end, bus.read(&FIRST)?, bus.read(&SECOND)?))
 }
 

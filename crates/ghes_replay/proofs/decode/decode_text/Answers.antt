@@ -1,6 +1,0 @@
--- The line of the reason, where the bytes are no block.
-use Rattle.std.proofs.Common.{rules, Some}
-use Rattle.ghes_replay.proofs.decode.decode_text.Goals as goal
-
-pub returns-in_ok-malformed_line-in-Err : goal.returns-in_ok-malformed_line-in-Err
-returns-in_ok-malformed_line-in-Err c = (Some c.in-Err.reason, c.in-Err.ensures.judged, search rules)
