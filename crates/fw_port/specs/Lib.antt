@@ -1,0 +1,4 @@
+pub mod Layout
+pub mod Port
+pub mod Source
+pub mod SourceLaws
