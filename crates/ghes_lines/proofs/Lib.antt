@@ -1,1 +1,3 @@
 mod FoundLemmas
+mod LookLemmas
+mod OutcomeLemmas

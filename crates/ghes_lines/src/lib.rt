@@ -2,11 +2,14 @@
 //! and what each line adds to the ledger. It makes no text.
 #![tactic(auto)]
 
-
 mod calling;
+mod desk;
 mod finding;
+mod machine;
 mod pending;
 mod port;
 
+pub use desk::Desk;
+pub use machine::{Machine, Source};
 pub use pending::Pending;
 pub use port::Port;

@@ -1,0 +1,10 @@
+use Rattle.std.proofs.Common.{◌≡◌, map, length}
+use Rattle.ghes_call.specs.Packet.{seen_of}
+use Rattle.ghes_lines.specs.Desk.{panicked}
+use Rattle.ghes_lines.proofs.desk.panic_rest.Given as goal
+
+abbrev pub invariant-loop-packet : goal.invariant-loop-packet
+invariant-loop-packet l = panicked (map seen_of l.rest) l.ledger ≡ panicked (map seen_of l.packets) l.initial.ledger
+
+abbrev pub decreases-loop-packet : goal.decreases-loop-packet
+decreases-loop-packet l = length l.rest

@@ -1,0 +1,149 @@
+//! What a replay has between two lines beside the memory of its sources.
+ghost use Rattle.std.specs.Prelude.{◌≡◌, ◌≤◌, ◌<◌, map, option_map, length, IfOk, OnOk, Some};
+ghost use Rattle.ghes_call.specs.Packet.{seen_of};
+ghost use Rattle.ghes_call.specs.Receive.{IsOfSource};
+ghost use Rattle.ghes_nmi.specs.Receive.{receive_seen};
+ghost use Rattle.ghes_lines.specs.Desk.{drained, panicked, worked, panicked_by, marked, IsAnswered, IsNmi};
+
+use crate::calling::{Answer, Ask, call, look};
+use crate::machine::Source;
+use crate::pending::Pending;
+use crate::port::Port;
+use ghes_call::{Buffer, Call, Packet};
+use ghes_ledger::Ledger;
+use ghes_steps::Steps;
+use std::alloc::{AllocError, Global};
+use std::marker::Model;
+use std::sync::ledger;
+
+/// What a replay has between two lines beside the memory of its sources.
+#[derive(Debug, Drop)]
+pub struct Desk {
+    pending: Pending,
+    ledger: Ledger,
+    clock: u64,
+    blocks: u32,
+    block_len: usize,
+    image: Buffer,
+}
+
+impl Model for Desk {
+    ghost use Rattle.std.specs.Prelude.{◌≤◌};
+    ghost use Rattle.ghes_lines.specs.Desk.{DeskSeen};
+
+    ghost Value = { DeskSeen };
+
+    ghost view = { λ d. record { pending = d.pending; ledger = d.ledger; clock = d.clock; blocks = d.blocks; block_len = d.block_len } };
+
+    ghost invariant = { λ d. d.block_len ≤ d.image.room };
+}
+
+// Takes each of these packets at a time, the oldest first: it is delivered, or dropped where it is malformed.
+fn drain(
+    alloc: Global,
+    packets: &[Packet],
+    time: u64,
+    ledger: &mut Ledger,
+) -> Result<(), AllocError>
+    ensures { OnOk result (ledger.new ≡ drained time (map seen_of packets.now) ledger.old) }
+{
+    let mut rest = packets;
+    while let Some((packet, behind)) = rest.split_first() {
+        let found = look(ledger.reports(), packet.bytes.as_slice(), time);
+        ledger.enter_taken(alloc, packet, found, time)?;
+        rest = behind;
+    }
+    Ok(())
+}
+
+// Enters each of these packets in the panic list, the oldest first.
+fn panic_rest(alloc: Global, packets: &[Packet], ledger: &mut Ledger) -> Result<(), AllocError>
+    ensures { OnOk result (ledger.new ≡ panicked (map seen_of packets.now) ledger.old) }
+{
+    let mut rest = packets;
+    while let Some((packet, behind)) = rest.split_first() {
+        ledger.enter_panic(alloc, packet, false)?;
+        rest = behind;
+    }
+    Ok(())
+}
+
+impl Desk {
+    /// Takes all that is pending.
+    pub(crate) fn work(&mut self, alloc: Global) -> Result<(), AllocError>
+        ensures { OnOk result (self.new ≡ worked self.old) }
+    {
+        drain(alloc, self.pending.packets(), self.clock, &mut self.ledger)?;
+        self.pending.clear();
+        Ok(())
+    }
+
+    // Enters all that is pending in the panic list, and a fatal packet behind it.
+    fn panic(&mut self, alloc: Global, packet: &Packet) -> Result<(), AllocError>
+        ensures { OnOk result (self.new ≡ panicked_by (Some (seen_of packet.now)) self.old) }
+    {
+        panic_rest(alloc, self.pending.packets(), &mut self.ledger)?;
+        self.pending.clear();
+        self.ledger.enter_panic(alloc, packet, true)
+    }
+
+    /// One call on the source at a position, whose memory is `port`.
+    pub(crate) fn call<P: Port, L: ledger::Ledger>(
+        &mut self,
+        alloc: Global,
+        source: &Source,
+        at: u16,
+        port: &mut P,
+        steps: &mut Steps<L>,
+    ) -> Result<Answer, AllocError>
+        requires source { IsOfSource (receive_seen source.now.receive) (P.seen port.old).layout }
+        requires header { 20 ≤ source.now.receive.limit }
+        requires limit { source.now.receive.limit ≤ self.old.block_len }
+        ensures { IfOk result (λ answer. IsAnswered (receive_seen source.now.receive) at (P.seen port.old) (P.seen port.new)
+            (P.faults port.old) (P.faults port.new) self.old self.new answer.reply (option_map seen_of answer.fatal)) }
+    {
+        let ask = Ask {
+            receive: &source.receive,
+            source: at,
+            seq: port.acknowledged() + 1,
+            reports: self.ledger.reports(),
+            time: self.clock,
+        };
+        call(alloc, &ask, &mut self.image, &mut self.pending, port, steps)
+    }
+
+    /// One call by the context that serves the source, and its entry in the ledger; a fatal block makes the panic list.
+    pub(crate) fn nmi<P: Port, L: ledger::Ledger>(
+        &mut self,
+        alloc: Global,
+        source: &Source,
+        at: u16,
+        port: &mut P,
+        steps: &mut Steps<L>,
+    ) -> Result<(), AllocError>
+        requires source { IsOfSource (receive_seen source.now.receive) (P.seen port.old).layout }
+        requires header { 20 ≤ source.now.receive.limit }
+        requires limit { source.now.receive.limit ≤ self.old.block_len }
+        ensures { OnOk result (IsNmi (receive_seen source.now.receive) source.now.server at (P.seen port.old) (P.seen port.new)
+            (P.faults port.old) (P.faults port.new) self.old self.new) }
+    {
+        let Answer { reply, fatal } = self.call(alloc, source, at, port, steps)?;
+        self.ledger.enter_call(Call {
+            context: source.server,
+            source: at,
+            now: self.clock,
+            reply,
+        })?;
+        match fatal {
+            None => Ok(()),
+            Some(packet) => self.panic(alloc, &packet),
+        }
+    }
+
+    /// Marks that the line of this number was executed, or with 0 that the script has ended.
+    pub(crate) fn mark(&mut self, line: u32) -> Result<(), AllocError>
+        ensures { OnOk result (self.new ≡ marked line self.old) }
+    {
+        self.ledger.enter_mark(line)
+    }
+}
