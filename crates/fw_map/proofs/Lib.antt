@@ -1,0 +1,4 @@
+mod OverlapLemmas
+mod PlaceLemmas
+mod RegisterLemmas
+mod TakenLemmas

@@ -3,4 +3,5 @@ pub mod Overlap
 pub mod Placement
 pub mod Registers
 pub mod Runs
+pub mod Taken
 pub mod Text

@@ -1,11 +1,11 @@
 -- Registers that cannot be told apart.
-use Rattle.std.specs.Prelude.{◌≡◌, ◌≤◌, ◌<◌, ℕ, Bool, true, false, not, ◌&&◌, List, length, slice_index_or, IsTrue}
+use Rattle.std.specs.Prelude.{◌≡◌, ◌≤◌, ◌<◌, ℕ, Bool, true, false, not, ◌&&◌, List, length, slice_index_or, Option, Some, None, IsTrue}
 use Rattle.apei_base.specs.declared.region.Space.{Space}
 use Rattle.fw_map.specs.Runs.{has_cell, shares}
 use Rattle.fw_map.specs.declared.error.Owner.{Owner}
 use Rattle.fw_map.specs.declared.error.Owner.TheVariants.{Source, Injection}
 use Rattle.fw_map.specs.declared.error.FwError.{FwError}
-use Rattle.fw_map.specs.declared.error.FwError.TheVariants.{Overlap}
+use Rattle.fw_map.specs.declared.error.FwError.TheVariants.{Overlap, Room, Narrow, OutOfMemory}
 use Rattle.fw_map.specs.declared.run.Register.{Register}
 use Rattle.fw_map.specs.declared.run.Run.{Run}
 
@@ -54,3 +54,22 @@ pub record Names (earlier later : Register) (first second : Owner) (space : Spac
 abbrev pub IsOverlap : List Register → Owner → Owner → Space → ℕ → Type 0
 IsOverlap registers first second space address = (i j : ℕ) × IsFirstClash registers i j
     × ((none : Register) → Names (slice_index_or registers i none) (slice_index_or registers j none) first second space address)
+
+-- the place of the first register that clashes with a later one, none where none does
+abbrev pub IsFirstOf : List Register → Register → Option ℕ → Type 0
+IsFirstOf registers later None = (k : ℕ) (none : Register) → k < length registers → clash (slice_index_or registers k none) later ≡ false
+IsFirstOf registers later (Some place) =
+    (place < length registers) × ((none : Register) → clash (slice_index_or registers place none) later ≡ true)
+    × ((k : ℕ) (none : Register) → k < place → clash (slice_index_or registers k none) later ≡ false)
+
+-- the refusal names an overlap of the two
+abbrev pub NamesError : Register → Register → FwError → Type 0
+NamesError earlier later (Overlap first second space address) = Names earlier later first second space address
+NamesError earlier later Room = ⊥
+NamesError earlier later (Narrow id) = ⊥
+NamesError earlier later OutOfMemory = ⊥
+
+-- the refusal names the first overlap of the registers
+abbrev pub IsOverlapError : List Register → FwError → Type 0
+IsOverlapError registers error = (i j : ℕ) × IsFirstClash registers i j
+    × ((none : Register) → NamesError (slice_index_or registers i none) (slice_index_or registers j none) error)

@@ -36,11 +36,8 @@ pub enum FwError {
     },
     /// The machine has as many blocks as it can have. No map is refused so.
     Room,
-    /// The address of the area of a source does not fit its status address register.
-    Narrow {
-        /// The id of the source.
-        id: u16,
-    },
+    /// The address of the area of the source with this id does not fit its status address register.
+    Narrow(u16),
     /// There is no memory for the map.
     OutOfMemory,
 }
@@ -109,7 +106,7 @@ impl fmt::Display for FwError {
                 write!(f, "1 overlap of {first} and {second} at {space} 0x{address:016x}")
             }
             FwError::Room => f.write_str("2 room"),
-            FwError::Narrow { id } => write!(f, "3 narrow source {id}"),
+            FwError::Narrow(id) => write!(f, "3 narrow source {id}"),
             FwError::OutOfMemory => f.write_str("out of memory"),
         }
     }

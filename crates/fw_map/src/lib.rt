@@ -5,7 +5,11 @@
 
 mod error;
 mod map;
+mod overlap;
+mod place;
+mod registers;
 mod run;
+mod taken;
 
 pub use error::{FwError, Owner};
 pub use map::{Map, Trigger};

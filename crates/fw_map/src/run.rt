@@ -1,5 +1,5 @@
 //! A run of cells, and a register with its owner.
-ghost use Rattle.std.specs.Prelude.{◌≡◌, ◌<◌, ◌+◌, IfSome, is_some};
+ghost use Rattle.std.specs.Prelude.{◌≡◌, ◌+◌};
 
 use crate::Owner;
 use apei_base::Space;
@@ -26,4 +26,23 @@ pub struct Register {
     pub owner: Owner,
     /// Its cells.
     pub run: Run,
+}
+
+impl Run {
+    ghost use Rattle.fw_map.specs.Runs.{end_of, shares};
+
+    /// The address behind the last cell.
+    pub(crate) fn end(&self) -> u128
+        ensures { result ≡ end_of self.now }
+    {
+        u128::from(self.first) + u128::from(self.bytes)
+    }
+
+    /// Whether both have a cell.
+    pub(crate) fn shares(&self, other: &Run) -> bool
+        ensures { result ≡ shares self.now other.now }
+    {
+        let begun = u128::from(self.first.max(other.first));
+        self.space.is_same(other.space) && begun < self.end() && begun < other.end()
+    }
 }
