@@ -1,3 +1,4 @@
+mod AnswerLemmas
 mod FoundLemmas
-mod LookLemmas
 mod OutcomeLemmas
+mod TiedLemmas

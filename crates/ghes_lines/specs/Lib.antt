@@ -1,5 +1,6 @@
 pub mod Call
 pub mod Desk
+pub mod Follows
 pub mod Found
 pub mod Machine
 pub mod Pending
