@@ -2,6 +2,7 @@
 mod fields;
 mod images;
 mod refusals;
+mod words;
 
 use std::alloc::Global;
 use std::test::Fail;

@@ -129,61 +129,44 @@ const FRONTS: [(&str, &str, usize, u32, Option<Malformed>); 19] = [
     ),
 ];
 
+// The same of blocks with entries: the block, an offset and the byte that stands there instead, what lies behind, and the reason. The
+// data length's first byte is at 12, the first entry's section length at 44, the second's at 112.
+const ENTRIES: [(&str, usize, u8, &str, Option<Malformed>); 6] = [
+    (MEMORY, 12, 144, "", None),
+    (MEMORY, 12, 144, "ffff", None),
+    (MEMORY, 12, 145, "00", Some(Malformed::Leftover)),
+    (MEMORY, 44, 81, "", Some(Malformed::EntryTruncated(0))),
+    (TWO, 112, 4, "", None),
+    (TWO, 112, 5, "", Some(Malformed::EntryTruncated(1))),
+];
+
+// The raw offset, the raw length and the length of a header, and what it alone says of the block.
+const HEADERS: [(u32, u32, u32, Result<u32, Malformed>); 5] = [
+    (0, 0, 144, Ok(164)),
+    (8, 4, 0, Err(Malformed::TooShort)),
+    (20, 4077, 0, Err(Malformed::TooLong)),
+    (0, 0, 63, Err(Malformed::DataLength)),
+    (19, 1, 0, Err(Malformed::RawOffset)),
+];
+
 #[test]
-fn a_front_is_refused_for_its_first_reason(rt: HostRuntime) -> Result<(), Fail> {
+fn bytes_are_refused_for_their_first_reason(rt: HostRuntime) -> Result<(), Fail> {
     for (name, front, zeros, limit, reason) in &FRONTS {
         let bytes = with_zeros(rt.alloc(), front, *zeros)?;
         assert_eq!(rt; Block::read(&bytes, *limit).err(), *reason, "at {name}");
     }
-    Ok(())
-}
-
-#[test]
-fn entries_that_do_not_fill_the_data_are_refused(rt: HostRuntime) -> Result<(), Fail> {
-    let memory = <[u8; 164]>::from_hex(MEMORY)?;
-    let two = <[u8; 164]>::from_hex(TWO)?;
-    // The data length's first byte is at 12, the first entry's section length at 44, the second's at 112.
-    let cases = [
-        ("memory", memory, "", None),
-        ("two bytes behind", memory, "ffff", None),
-        (
-            "data length 145",
-            with_byte(memory, 12, 145),
-            "00",
-            Some(Malformed::Leftover),
-        ),
-        (
-            "a section of 81 bytes",
-            with_byte(memory, 44, 81),
-            "",
-            Some(Malformed::EntryTruncated(0)),
-        ),
-        ("two", two, "", None),
-        (
-            "a second section of 5 bytes",
-            with_byte(two, 112, 5),
-            "",
-            Some(Malformed::EntryTruncated(1)),
-        ),
-    ];
-    for (name, block, behind, reason) in &cases {
-        let mut bytes = block.to_vec(rt.alloc())?;
+    for (block, offset, byte, behind, reason) in &ENTRIES {
+        let mut bytes = with_byte(<[u8; 164]>::from_hex(block)?, *offset, *byte).to_vec(
+            rt.alloc(),
+        )?;
         bytes.extend_from_slice(&hex::decode(rt.alloc(), behind)?)?;
-        assert_eq!(rt; Block::read(&bytes, LIMIT).err(), *reason, "at {name}");
+        assert_eq!(rt;
+            Block::read(&bytes, LIMIT).err(),
+            *reason,
+            "{byte} at {offset}"
+        );
     }
-    Ok(())
-}
-
-#[test]
-fn a_header_alone_is_judged_for_four_reasons(rt: HostRuntime) {
-    const CASES: [(u32, u32, u32, Result<u32, Malformed>); 5] = [
-        (0, 0, 144, Ok(164)),
-        (8, 4, 0, Err(Malformed::TooShort)),
-        (20, 4077, 0, Err(Malformed::TooLong)),
-        (0, 0, 63, Err(Malformed::DataLength)),
-        (19, 1, 0, Err(Malformed::RawOffset)),
-    ];
-    for (raw_offset, raw_length, length, answer) in CASES {
+    for (raw_offset, raw_length, length, answer) in HEADERS {
         let header = Header {
             status: 2,
             raw_offset,
@@ -192,21 +175,6 @@ fn a_header_alone_is_judged_for_four_reasons(rt: HostRuntime) {
             severity: 2,
         };
         assert_eq!(rt; header.check(LIMIT), answer, "at {header:?}");
-    }
-}
-
-#[test]
-fn each_reason_has_its_number_and_its_words(rt: HostRuntime) -> Result<(), Fail> {
-    const CASES: [(Malformed, &str); 6] = [
-        (Malformed::TooShort, "1 too short"),
-        (Malformed::TooLong, "2 too long"),
-        (Malformed::DataLength, "3 data length"),
-        (Malformed::RawOffset, "4 raw offset"),
-        (Malformed::EntryTruncated(3), "5 entry 3 truncated"),
-        (Malformed::Leftover, "6 left over"),
-    ];
-    for (reason, words) in &CASES {
-        assert_eq!(rt; format!(in rt.alloc(); "{reason}")?.as_str(), *words);
     }
     Ok(())
 }
