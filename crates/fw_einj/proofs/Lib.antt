@@ -1,2 +1,4 @@
 mod AddedLemmas
+mod FieldLemmas
 mod GuidLemmas
+mod MachineLemmas

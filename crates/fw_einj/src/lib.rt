@@ -3,11 +3,24 @@
 #![tactic(auto)]
 
 mod block;
+mod board;
 mod class;
+mod command;
+mod field;
 mod injection;
 mod part;
+mod port;
+mod register;
 mod section;
+mod setup;
+mod structure;
+mod trigger;
 
 pub use block::injected_block;
+pub use board::{Asked, Board};
 pub use class::Class;
 pub use injection::Injection;
+pub use port::{EinjPort, Made};
+pub use register::Register;
+pub use setup::Setup;
+pub use structure::AddressStructure;
