@@ -3,3 +3,4 @@ pub mod Loads
 pub mod MemFiles
 pub mod MemSink
 pub mod Outside
+pub mod Text

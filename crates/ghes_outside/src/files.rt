@@ -3,6 +3,8 @@ ghost use Rattle.std.specs.Prelude.{◌≡◌, ◌≢◌, ◌≤◌, ℕ, List, 
 ghost use Rattle.ghes_outside.specs.Outside.{FilesSeen, Rose, Agrees, IsLonger, names_after};
 
 use std::alloc::{AllocError, AllocFailed};
+use std::error::Error;
+use std::fmt;
 
 /// Why a file was not loaded.
 #[derive(Clone, Copy, Debug, PartialEq, Eq)]
@@ -33,6 +35,23 @@ impl<T: Drop> From<AllocFailed<T>> for LoadError {
         LoadError::OutOfMemory
     }
 }
+
+impl fmt::Display for LoadError {
+    ghost use Rattle.std.specs.Prelude.{Some};
+    ghost use Rattle.ghes_outside.specs.Text.{load_error_text};
+
+    ghost output = { λ e. Some (load_error_text e) };
+
+    fn fmt<W: fmt::Write>(&self, f: &mut fmt::Formatter<W>) -> fmt::Result {
+        match self {
+            LoadError::Failed => f.write_str("1 failed"),
+            LoadError::TooLong => f.write_str("2 too long"),
+            LoadError::OutOfMemory => f.write_str("out of memory"),
+        }
+    }
+}
+
+impl Error for LoadError {}
 
 /// Files that are loaded whole, by name.
 pub trait Files {

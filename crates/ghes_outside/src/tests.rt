@@ -33,6 +33,13 @@ fn files_in_memory_are_loaded_up_to_a_limit_and_fail_as_planned(
         );
         assert_eq!(rt; into.as_slice(), *bytes, "load {number}");
     }
+    for (error, text) in [
+        (LoadError::Failed, "1 failed"),
+        (LoadError::TooLong, "2 too long"),
+        (LoadError::OutOfMemory, "out of memory"),
+    ] {
+        assert_eq!(rt; error.to_string(rt.alloc())?.as_str(), text);
+    }
     Ok(())
 }
 

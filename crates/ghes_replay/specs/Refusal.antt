@@ -3,8 +3,7 @@ use Rattle.std.specs.Prelude.{ℕ, List, [], ◌++◌, codes}
 use Rattle.std.specs.Fmt.{decimal}
 use Rattle.apei_einj.specs.Text.{einj_error_text}
 use Rattle.apei_hest.specs.Text.{hest_error_text}
-use Rattle.ghes_outside.specs.declared.files.LoadError.{LoadError}
-use Rattle.ghes_outside.specs.declared.files.LoadError.TheVariants as loads
+use Rattle.ghes_outside.specs.Text.{load_error_text}
 use Rattle.ghes_plain_script.specs.Text.{kind_text}
 use Rattle.ghes_plain_script.specs.declared.error.BadLine.{BadLine}
 use Rattle.ghes_replay.specs.declared.exit.Refusal.{Refusal}
@@ -20,12 +19,6 @@ status_of refusals.NotBuilt = 3
 status_of (refusals.Script line) = 4
 status_of (refusals.Load file why) = 5
 status_of refusals.OutOfMemory = 7
-
--- why a file was not loaded
-abbrev pub load_error_text : LoadError → List ℕ
-load_error_text loads.Failed = codes "1 failed"
-load_error_text loads.TooLong = codes "2 too long"
-load_error_text loads.OutOfMemory = codes "out of memory"
 
 -- the line for a command line that is none of the forms
 abbrev pub usage_line : List ℕ

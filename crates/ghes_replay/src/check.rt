@@ -95,12 +95,8 @@ fn injection_line(alloc: Global, injection: &Option<Einj>) -> Result<String, All
 }
 
 // The listing of a table, and of an injection table where there is one.
-fn check_text(
-    alloc: Global,
-    found: &[Source],
-    injection: &Option<Einj>,
-) -> Result<Vec<u8>, AllocError>
-    ensures { IfOk result (λ text. text.items ≡ check_text found.now injection.now) }
+fn list_both(alloc: Global, found: &[Source], injection: &Option<Einj>) -> Result<Done, Refusal>
+    ensures { Prints (λ text. text ≡ check_text found.now injection.now) (done_of result) }
 {
     let mut text = Vec::new(alloc);
     let line = hest_count_line(alloc, found.len())?;
@@ -108,17 +104,7 @@ fn check_text(
     sources_text(alloc, &mut text, found)?;
     let last = injection_line(alloc, injection)?;
     text.extend_from_slice(last.as_bytes())?;
-    Ok(text)
-}
-
-// Lists tables that were loaded.
-fn list_both(alloc: Global, found: &[Source], injection: &Option<Einj>) -> Result<Done, Refusal>
-    ensures { Prints (λ text. text ≡ check_text found.now injection.now) (done_of result) }
-{
-    match check_text(alloc, found, injection) {
-        Ok(text) => Ok(Done { ledger: None, text }),
-        Err(_) => Err(Refusal::OutOfMemory),
-    }
+    Ok(Done { ledger: None, text })
 }
 
 /// Lists the table of a file, and the injection table of another unless its word is `-`.

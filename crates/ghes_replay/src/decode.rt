@@ -42,24 +42,19 @@ fn whole_text(alloc: Global, header: &Header, bytes: &[u8]) -> Result<Vec<u8>, A
     Ok(text)
 }
 
-// The text of the block that the bytes begin with, or of the reason why they begin with none.
-// Bytes behind the block are not read.
-fn decode_text(alloc: Global, bytes: &[u8]) -> Result<Vec<u8>, AllocError>
-    ensures { IfOk result (λ text. Decodes bytes.now text.items) }
-{
-    match Block::read(bytes, LARGEST_BLOCK) {
-        Ok(block) => whole_text(alloc, &block.header(), bytes),
-        Err(reason) => Ok(malformed_line(alloc, reason)?.into_bytes()),
-    }
-}
-
-// Prints the block that the bytes of a file begin with.
+// Prints the block that the bytes begin with, or the reason why they begin with none. Bytes behind the block are not read.
 fn print_block(alloc: Global, bytes: &[u8]) -> Result<Done, Refusal>
     ensures { Prints (Decodes bytes.now) (done_of result) }
 {
-    match decode_text(alloc, bytes) {
-        Ok(text) => Ok(Done { ledger: None, text }),
-        Err(_) => Err(Refusal::OutOfMemory),
+    match Block::read(bytes, LARGEST_BLOCK) {
+        Ok(block) => {
+            let text = whole_text(alloc, &block.header(), bytes)?;
+            Ok(Done { ledger: None, text })
+        }
+        Err(reason) => {
+            let text = malformed_line(alloc, reason)?.into_bytes();
+            Ok(Done { ledger: None, text })
+        }
     }
 }
 

@@ -1,4 +1,5 @@
-//! Replays a script of hardware errors: from a table and a script to the ledger of what became of each block, and its text.
+//! What the program `ghes` does for its words: it replays a script of errors on a table, to the ledger of what became of
+//! each block and its text; it lists tables; it prints one block; or it is refused, with a status and a line.
 #![tactic(auto)]
 
 mod check;
@@ -10,7 +11,6 @@ mod program;
 mod putting;
 mod replay;
 mod run;
-mod script_run;
 mod served;
 mod task;
 #[cfg(test)]

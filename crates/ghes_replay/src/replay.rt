@@ -10,26 +10,30 @@ ghost use Rattle.ghes_replay.specs.Views.{done_of};
 use crate::Refusal;
 use crate::done::Done;
 use crate::loading::{load_hest, load_script};
-use crate::script_run::{Replayed, run_script};
 use crate::served::served;
 use apei_hest::Ghes;
 use ghes_outside::Files;
 use ghes_plain_script::Line;
+use ghes_report::replay_text;
+use ghes_serial::{Run, run_lines};
 use std::alloc::Global;
 
-// Replays the lines of a script on a source.
+// Replays the lines of a script on a source: runs them, and makes the text of the ledger behind the run.
 fn replay_lines(alloc: Global, ghes: &Ghes, lines: &[Line]) -> Result<Done, Refusal>
     requires few { length lines.now < 2 ^ 32 }
     requires first { AllByRecursion (λ line. IsOfFirst line.what) lines.now }
     ensures { RunsLines ghes.now lines.now (done_of result) }
 {
-    match run_script(alloc, ghes.id, ghes.limit(), lines) {
-        Ok(Replayed { ledger, text }) => Ok(Done {
-            ledger: Some(ledger),
-            text,
-        }),
-        Err(_) => Err(Refusal::OutOfMemory),
-    }
+    let Run {
+        ledger,
+        raised,
+        acknowledged,
+    } = run_lines(alloc, ghes.limit(), lines)?;
+    let text = replay_text(alloc, &ledger, &[ghes.id], &[raised], &[acknowledged])?;
+    Ok(Done {
+        ledger: Some(ledger),
+        text,
+    })
 }
 
 // The source of the table in a file that a replay serves.

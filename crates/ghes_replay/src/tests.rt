@@ -118,26 +118,27 @@ type Case = (
 );
 
 const CASES: [Case; 18] = [
-    (&["replay", "hest", "-", "fates"], &[], &[], 0, &[FATES]),
+    // The load and the put behind those that a run makes would fail.
+    (&["replay", "hest", "-", "fates"], &[3], &[2], 0, &[FATES]),
     (&["replay", "hest", "-", "fatal"], &[], &[], 1, &[FATAL]),
     (
         &["check", "hest", "-"],
-        &[],
-        &[],
+        &[2],
+        &[2],
         0,
         &[LISTED, "einj: none\n"],
     ),
     (
         &["check", "hest", "einj"],
-        &[],
-        &[],
+        &[3],
+        &[2],
         0,
         &[LISTED, "einj: 9 entries\n"],
     ),
     (
         &["decode", "block"],
-        &[],
-        &[],
+        &[2],
+        &[2],
         0,
         &["block of 27 bytes\n  severity fatal\n  raw 3 bytes\n"],
     ),
