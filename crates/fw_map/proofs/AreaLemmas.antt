@@ -1,12 +1,12 @@
 -- Areas, placed one after another.
-use Rattle.std.proofs.Common.{◌≡◌, ◌≤◌, ◌<◌, ◌+◌, ◌-◌, ◌^◌, ◌⊎◌, ℕ, Bool, true, false, ◌||◌, List, [], ◌∷◌, ◌++◌, length, get_or, take, map, refl, sym, ap, ◌∙◌, subst, arith, ⊎_elim, length-append}
-use Rattle.std.proofs.lemmas.Bool.{cases_eq, cases_lt}
-use Rattle.std.proofs.lemmas.List.{append_assoc, append-nil, take_more, take_all, take-append-le, get_or_append_left, get_or-append_right, get_or-take, get_or_default, length-take, map-append}
+use Rattle.std.proofs.Common.{◌≡◌, ◌≤◌, ◌<◌, ◌+◌, ◌-◌, ℕ, Bool, true, false, ◌||◌, List, [], ◌∷◌, ◌++◌, length, get_or, take, refl, sym, ap, ◌∙◌, subst, arith, ⊎_elim, length-append}
+use Rattle.std.proofs.lemmas.Bool.{cases_lt}
+use Rattle.std.proofs.lemmas.List.{append_assoc, append-nil, take_more, take_all, take-append-le, get_or_append_left, get_or-append_right, get_or-take, map-append}
 use Rattle.std.proofs.lemmas.List.Folds.{list_any-append}
 use Rattle.apei_hest.specs.Source.{limit_of}
 use Rattle.apei_hest.specs.declared.source.Ghes.{Ghes}
-use Rattle.fw_map.specs.Areas.{lengths_of, limits_of, reach_of_status, Fit, AreAreasOf, IsAreaOf, IsTooNarrow, IsNarrow, IsNarrowAt, HaveNoAreas}
-use Rattle.fw_map.specs.Placement.{area_at, IsLowest, IsPlaced, ArePlaced, ArePlacedBehind}
+use Rattle.fw_map.specs.Areas.{lengths_of, limits_of, reach_of_status, Fit, AreAreasOf, IsAreaOf, IsTooNarrow, IsNarrowAt, HaveNoAreas}
+use Rattle.fw_map.specs.Placement.{area_at, IsLowest, IsPlaced, ArePlaced}
 use Rattle.fw_map.specs.Runs.{shares, is_taken}
 use Rattle.fw_map.specs.Taken.{AreSorted, TakeSame, TakesAlso}
 use Rattle.fw_map.specs.declared.error.FwError.{FwError}

@@ -7,7 +7,7 @@ use Rattle.apei_einj.specs.declared.entry.Entry.{Entry}
 use Rattle.fw_map.specs.Areas.{AreAreasOf, HaveNoAreas, IsNarrow, IsTooNarrow, IsTriggerOf, lengths_of, trigger_areas, trigger_lengths}
 use Rattle.fw_map.specs.Map.{IsMapOf, IsRefusedWith}
 use Rattle.fw_map.specs.Overlap.{AreApart, Overlaps}
-use Rattle.fw_map.specs.Placement.{ArePlaced, ArePlacedBehind}
+use Rattle.fw_map.specs.Placement.{ArePlaced}
 use Rattle.fw_map.specs.Registers.{registers_of, entries_of, runs_of}
 use Rattle.fw_map.specs.Runs.{is_taken}
 use Rattle.fw_map.specs.Taken.{TakeSame}
@@ -63,10 +63,10 @@ trigger_placed runs areas taken (Some entries) None placed same is = absurd is
 trigger_placed runs areas taken (Some entries) (Some trigger) placed same is =
     let first = placed_more runs areas trigger.table placed (placed_same taken (runs ++ areas) trigger.table same is.table_placed) in
     let behind : TakeSame (taken ++ trigger.table ∷ []) (runs ++ (areas ++ trigger.table ∷ [])) =
-        λ area. same_with taken (runs ++ areas) (trigger.table ∷ []) same area ∙ ap (λ all. is_taken all area) (append_assoc runs areas (trigger.table ∷ [])) in (
+    λ area. same_with taken (runs ++ areas) (trigger.table ∷ []) same area ∙ ap (λ all. is_taken all area) (append_assoc runs areas (trigger.table ∷ [])) in (
       ap (λ n. n ∷ trigger.cell.bytes ∷ []) is.table_bytes ∙ ap (λ n. 48 ∷ n ∷ []) is.cell_bytes,
       subst (ArePlaced runs) (append_assoc areas (trigger.table ∷ []) (trigger.cell ∷ []))
-      (placed_more runs (areas ++ trigger.table ∷ []) trigger.cell first (placed_same (taken ++ trigger.table ∷ []) (runs ++ (areas ++ trigger.table ∷ [])) trigger.cell behind is.cell_placed)),
+          (placed_more runs (areas ++ trigger.table ∷ []) trigger.cell first (placed_same (taken ++ trigger.table ∷ []) (runs ++ (areas ++ trigger.table ∷ [])) trigger.cell behind is.cell_placed)),
     )
 
 -- a map from its parts

@@ -1,6 +1,6 @@
 -- Registers that clash, and those that do not.
-use Rattle.std.proofs.Common.{◌≡◌, ◌≤◌, ◌<◌, ◌+◌, ◌⊎◌, ℕ, max, min, Bool, true, false, not, ◌&&◌, ltb, leb, List, length, get_or, take, Option, Some, None, refl, sym, ap, ◌∙◌, subst, arith, ⊎_elim}
-use Rattle.std.proofs.lemmas.Bool.{cases_lt, cases_eq, both_ways, and_parts, and_from, and_right, ltb-true, lt-ltb, leb-true, le-leb}
+use Rattle.std.proofs.Common.{◌≡◌, ◌≤◌, ◌<◌, ◌+◌, ℕ, max, min, true, false, not, ◌&&◌, ltb, leb, List, length, get_or, take, Some, None, refl, sym, ap, ◌∙◌, subst, arith, ⊎_elim}
+use Rattle.std.proofs.lemmas.Bool.{cases_lt, cases_eq, and_parts, and_from, and_right, lt-ltb, leb-true, le-leb}
 use Rattle.std.proofs.lemmas.List.{get_or-take, get_or_default, length-take}
 use Rattle.apei_base.specs.Bus.{same_space}
 use Rattle.apei_base.specs.declared.region.Space.{Space}
@@ -12,7 +12,7 @@ use Rattle.fw_map.specs.declared.error.FwError.{FwError}
 use Rattle.fw_map.specs.declared.error.FwError.TheVariants.{Overlap, Room, Narrow, OutOfMemory}
 use Rattle.fw_map.specs.declared.run.Register.{Register}
 use Rattle.fw_map.specs.declared.run.Run.{Run}
-use Rattle.fw_map.proofs.PlaceLemmas.{Meets, meets}
+use Rattle.fw_map.proofs.PlaceLemmas.{meets}
 
 -- a space is itself
 same_itself : (space : Space) → same_space space space ≡ true

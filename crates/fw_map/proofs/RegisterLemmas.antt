@@ -10,7 +10,7 @@ use Rattle.apei_hest.specs.declared.source.Ghes.{Ghes}
 use Rattle.apei_hest.specs.declared.source.Source.{Source}
 use Rattle.std.proofs.lemmas.Bool.Decides.{nat_tests}
 use Rattle.apei_einj.proofs.RefusedLemmas.{gas_refusal_accepted}
-use Rattle.apei_einj.specs.Refusal.{entry_refusal, register_reason, register_refusal}
+use Rattle.apei_einj.specs.Refusal.{register_reason, register_refusal}
 use Rattle.apei_einj.specs.Table.{IsRunnable}
 use Rattle.apei_einj.specs.declared.error.EinjError.TheVariants.{Instruction}
 use Rattle.apei_einj.specs.declared.entry.Entry.{Entry}

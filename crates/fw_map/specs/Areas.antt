@@ -1,7 +1,6 @@
 -- The areas of the sources and of the injection table.
 use Rattle.std.specs.Prelude.{◌≡◌, ◌≤◌, ◌<◌, ℕ, ◌^◌, List, [], ◌∷◌, ◌++◌, map, length, take, slice_index_or, Option, Some, None}
 use Rattle.apei_base.specs.Region.{access_width}
-use Rattle.apei_base.specs.declared.region.Space.{Space}
 use Rattle.apei_hest.specs.Source.{limit_of}
 use Rattle.apei_hest.specs.declared.source.Ghes.{Ghes}
 use Rattle.apei_einj.specs.declared.entry.Entry.{Entry}

@@ -1,4 +1,4 @@
-use Rattle.std.proofs.Common.{option_copied, sym, subst}
+use Rattle.std.proofs.Common.{option_copied, subst}
 use Rattle.fw_map.specs.Registers.{runs_of}
 use Rattle.fw_map.specs.Taken.{TakeSame}
 use Rattle.fw_map.proofs.MapLemmas.{refused_areas, map_is}

@@ -15,6 +15,6 @@ pub returns-in-Some-clause-refused : goal.returns-in-Some-clause-refused
 returns-in-Some-clause-refused c =
     subst (λ registers. Overlaps registers c.in-Some.error)
     (c.deref.ensures.value ∙ c.in_ok-push_injection.ensures
-    ∙ ap (λ own. own ++ injection_registers (entries_of (option_copied c.args.einj))) 
+    ∙ ap (λ own. own ++ injection_registers (entries_of (option_copied c.args.einj)))
     (c.in_ok-push_sources.ensures ∙ ap (λ front. front ++ flat_map source_registers c.args.sources.now) c.new-registers.ensures.items))
     (overlaps_from c.deref.result.now c.in-Some.error c.in-Some.ensures.some)
