@@ -1,3 +1,5 @@
+mod AreaLemmas
+mod MapLemmas
 mod OverlapLemmas
 mod PlaceLemmas
 mod RegisterLemmas

@@ -1,16 +1,18 @@
 -- Registers that clash, and those that do not.
-use Rattle.std.proofs.Common.{◌≡◌, ◌≤◌, ◌<◌, ◌+◌, ◌⊎◌, ℕ, max, min, Bool, true, false, not, ◌&&◌, ltb, leb, List, length, get_or, take, Option, Some, None, refl, sym, ap, ◌∙◌, subst, arith, ⊎_elim}
-use Rattle.std.proofs.lemmas.Bool.{cases_lt, cases_eq, both_ways, and_parts, and_from, and_right, ltb-true, lt-ltb, leb-true, le-leb}
+use Rattle.std.proofs.Common.{◌≡◌, ◌≤◌, ◌<◌, ◌+◌, ℕ, max, min, true, false, not, ◌&&◌, ltb, leb, List, length, get_or, take, Some, None, refl, sym, ap, ◌∙◌, subst, arith, ⊎_elim}
+use Rattle.std.proofs.lemmas.Bool.{cases_lt, cases_eq, and_parts, and_from, and_right, lt-ltb, leb-true, le-leb}
 use Rattle.std.proofs.lemmas.List.{get_or-take, get_or_default, length-take}
 use Rattle.apei_base.specs.Bus.{same_space}
 use Rattle.apei_base.specs.declared.region.Space.{Space}
 use Rattle.apei_base.specs.declared.region.Space.TheVariants.{Memory, Port}
 use Rattle.fw_map.specs.Runs.{end_of, has_cell, shares}
-use Rattle.fw_map.specs.Overlap.{is_injection, clash, AreApartBelow, IsFirstClash, IsFirstOf, NamesError, IsLowestShared}
+use Rattle.fw_map.specs.Overlap.{is_injection, clash, AreApartBelow, IsFirstClash, IsFirstOf, NamesError, IsLowestShared, IsOverlapError, Overlaps}
+use Rattle.fw_map.specs.declared.error.Owner.TheVariants.{Injection}
 use Rattle.fw_map.specs.declared.error.FwError.{FwError}
+use Rattle.fw_map.specs.declared.error.FwError.TheVariants.{Overlap, Room, Narrow, OutOfMemory}
 use Rattle.fw_map.specs.declared.run.Register.{Register}
 use Rattle.fw_map.specs.declared.run.Run.{Run}
-use Rattle.fw_map.proofs.PlaceLemmas.{Meets, meets}
+use Rattle.fw_map.proofs.PlaceLemmas.{meets}
 
 -- a space is itself
 same_itself : (space : Space) → same_space space space ≡ true
@@ -110,3 +112,10 @@ names_found registers n m first earlier later none error below within there is a
     subst (λ other. NamesError (get_or registers first none) other error) (also ∙ get_or_default registers n later none there)
     (subst (λ one. NamesError one later error)
     (is ∙ get_or-take m registers first earlier below ∙ get_or_default registers first earlier none within) names)
+
+-- a refusal that names an overlap is one
+pub overlaps_from : (registers : List Register) (error : FwError) → IsOverlapError registers error → Overlaps registers error
+overlaps_from registers (Overlap first second space address) found = found
+overlaps_from registers Room found = found.3 (record { owner = Injection; run = record { space = Memory; first = 0; bytes = 0 } })
+overlaps_from registers (Narrow id) found = found.3 (record { owner = Injection; run = record { space = Memory; first = 0; bytes = 0 } })
+overlaps_from registers OutOfMemory found = tt

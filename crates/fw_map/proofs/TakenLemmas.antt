@@ -1,10 +1,10 @@
 -- Runs that are taken, in order.
-use Rattle.std.proofs.Common.{◌≡◌, ◌≤◌, ◌<◌, ℕ, Bool, true, false, ltb, ◌||◌, List, ◌∷◌, length, get_or, refl, sym, ap, ◌∙◌, arith}
+use Rattle.std.proofs.Common.{◌≡◌, ◌≤◌, ℕ, true, false, ltb, List, ◌∷◌, length, get_or, sym, arith}
 use Rattle.std.proofs.lemmas.List.Sorted.{list_any-IsPermutation, IsPermutation-insert, IsNonDecreasingBy-insert}
 use Rattle.std.proofs.lemmas.Bool.{ltb-true, ltb-false}
 use Rattle.std.specs.List.{insert}
 use Rattle.std.specs.List.Sorted.{IsPermutation, IsPartitionPoint}
-use Rattle.fw_map.specs.Runs.{shares, is_taken}
+use Rattle.fw_map.specs.Runs.{shares}
 use Rattle.fw_map.specs.Taken.{AreSorted, TakeSame, TakesAlso}
 use Rattle.fw_map.specs.declared.run.Run.{Run}
 

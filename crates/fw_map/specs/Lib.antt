@@ -1,3 +1,4 @@
+pub mod Areas
 pub mod Map
 pub mod Overlap
 pub mod Placement

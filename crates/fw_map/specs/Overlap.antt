@@ -73,3 +73,10 @@ NamesError earlier later OutOfMemory = ⊥
 abbrev pub IsOverlapError : List Register → FwError → Type 0
 IsOverlapError registers error = (i j : ℕ) × IsFirstClash registers i j
     × ((none : Register) → NamesError (slice_index_or registers i none) (slice_index_or registers j none) error)
+
+-- why registers are refused: an overlap, or want of memory before one was looked for
+abbrev pub Overlaps : List Register → FwError → Type 0
+Overlaps registers (Overlap first second space address) = IsOverlap registers first second space address
+Overlaps registers Room = ⊥
+Overlaps registers (Narrow id) = ⊥
+Overlaps registers OutOfMemory = Unit {0}

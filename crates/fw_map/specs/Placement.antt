@@ -1,5 +1,5 @@
 -- Where the areas of a machine stand.
-use Rattle.std.specs.Prelude.{◌≡◌, ◌<◌, ℕ, ◌+◌, ◌*◌, true, false, List, ◌++◌, length, take, slice_index_or}
+use Rattle.std.specs.Prelude.{◌≡◌, ◌<◌, ℕ, ◌+◌, ◌*◌, true, false, List, [], ◌∷◌, ◌++◌, length, take, slice_index_or}
 use Rattle.apei_base.specs.declared.region.Space.TheVariants.{Memory}
 use Rattle.fw_map.specs.Runs.{is_taken}
 use Rattle.fw_map.specs.declared.run.Run.{Run}
@@ -25,3 +25,10 @@ IsPlaced runs area = (number : ℕ) × (area ≡ area_at area.bytes number) × I
 -- Each area stands at the lowest place where it shares no cell with any of the runs, or with an area before it (own choice).
 abbrev pub ArePlaced : List Run → List Run → Type 0
 ArePlaced runs areas = (k : ℕ) (none : Run) → k < length areas → IsPlaced (runs ++ take k areas) (slice_index_or areas k none)
+
+-- These are the areas of the injection table, in order: 48 bytes and 4, behind the runs that are taken.
+pub record ArePlacedBehind (runs : List Run) (table cell : Run) : Type 0 where
+  pub table_bytes : table.bytes ≡ 48
+  pub cell_bytes : cell.bytes ≡ 4
+  pub table_placed : IsPlaced runs table
+  pub cell_placed : IsPlaced (runs ++ table ∷ []) cell

@@ -8,7 +8,6 @@ use Rattle.apei_hest.specs.declared.source.Ack2.{Ack2}
 use Rattle.apei_hest.specs.declared.source.Ghes.{Ghes}
 use Rattle.apei_einj.specs.Anchor.{anchor_of}
 use Rattle.apei_einj.specs.declared.entry.Entry.{Entry}
-use Rattle.fw_map.specs.declared.error.Owner.{Owner}
 use Rattle.fw_map.specs.declared.error.Owner.TheVariants as owners
 use Rattle.fw_map.specs.declared.run.Register.{Register}
 use Rattle.fw_map.specs.declared.run.Run.{Run}

@@ -103,7 +103,10 @@ impl fmt::Display for FwError {
                 address,
             } => {
                 let space = word(*space);
-                write!(f, "1 overlap of {first} and {second} at {space} 0x{address:016x}")
+                write!(
+                    f,
+                    "1 overlap of {first} and {second} at {space} 0x{address:016x}"
+                )
             }
             FwError::Room => f.write_str("2 room"),
             FwError::Narrow(id) => write!(f, "3 narrow source {id}"),

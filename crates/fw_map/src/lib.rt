@@ -3,6 +3,7 @@
 //! refused, by the owners and the cell.
 #![tactic(auto)]
 
+mod areas;
 mod error;
 mod map;
 mod overlap;

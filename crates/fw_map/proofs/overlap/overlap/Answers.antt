@@ -1,4 +1,4 @@
-use Rattle.std.proofs.Common.{◌≡◌, ◌<◌, length, take, Some, None, sym, subst, refl, arith}
+use Rattle.std.proofs.Common.{◌<◌, length, take, subst, refl, arith}
 use Rattle.std.proofs.lemmas.List.{get_or_default, length-take}
 use Rattle.fw_map.specs.Overlap.{IsFirstOf}
 use Rattle.fw_map.proofs.OverlapLemmas.{apart_more, new_apart, none_before, found_clash, names_found}
@@ -13,10 +13,10 @@ returns-in-Some-clause-some c =
       c.in-Some.first,
       c.loop-place.place,
       found_clash c.args.registers.now c.loop-place.place c.args.sources c.min.result c.in-Some.first _ c.min.ensures c.loop-place-test.true
-      (λ none. get_or_default c.args.registers.now c.loop-place.place _ none c.loop-place-test.true) c.loop-place.invariant found,
+          (λ none. get_or_default c.args.registers.now c.loop-place.place _ none c.loop-place-test.true) c.loop-place.invariant found,
       λ none. names_found c.args.registers.now c.loop-place.place c.min.result c.in-Some.first _ _ none c.overlap_of.result below within c.loop-place-test.true
-      (get_or_default (take c.min.result c.args.registers.now) c.in-Some.first _ _ short)
-      (get_or_default c.args.registers.now c.loop-place.place _ _ c.loop-place-test.true) c.overlap_of.ensures,
+          (get_or_default (take c.min.result c.args.registers.now) c.in-Some.first _ _ short)
+          (get_or_default c.args.registers.now c.loop-place.place _ _ c.loop-place-test.true) c.overlap_of.ensures,
     )
 
 pub loop-place-preserved : goal.loop-place-preserved

@@ -1,5 +1,5 @@
 use Rattle.fw_map.proofs.PlaceLemmas.{swept_more, swept_all}
-use Rattle.std.proofs.Common.{refl, arith}
+use Rattle.std.proofs.Common.{arith}
 use Rattle.std.proofs.lemmas.List.{get_or_default}
 use Rattle.fw_map.proofs.place.lowest.Goals as goal
 
