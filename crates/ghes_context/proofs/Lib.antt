@@ -1,3 +1,4 @@
 mod FoundLemmas
 mod NmiLemmas
 mod OutcomeLemmas
+mod Popped

@@ -12,6 +12,8 @@ mod finding;
 mod parted;
 mod queueing;
 mod rest;
+#[cfg(test)]
+mod tests;
 
 pub use context::{Context, ContextRefused};
 pub use ghes_nmi::{AckRule, Receive};

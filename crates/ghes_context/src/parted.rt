@@ -36,6 +36,8 @@ impl Context {
         ensures parted { result.0 ≡ parted_from self }
         ensures pass { result.1 ≡ self.pass }
         ensures idle { result.1.view.stage ≡ Idle }
+        ensures number { result.1.view.number ≡ self.number }
+        ensures long { result.1.view.room ≡ self.block_len }
     {
         let Context { desk, rest } = self;
         let Some(Desk { pass, image }) = desk else {
