@@ -39,6 +39,12 @@ numbers_push s past call =
     ap length (flat_map-append (number_by s) past (call ∷ [])) ∙ length-append (numbers_of s past) (number_by s call ++ [])
     ∙ ap (λ xs. acknowledged s past + length xs) (append-nil (number_by s call))
 
+-- a call on another source adds no failed call
+pub faulty_other : (s : ℕ) (past : List Call) (call : Call) → eqb call.source s ≡ false → length (faulty_calls s (past ++ call ∷ [])) ≡ length (faulty_calls s past)
+faulty_other s past call other =
+    count_push (λ c. eqb c.source s && (is_fault c.reply.outcome || is_failed c.reply.ack)) past call
+    ∙ ap (λ b. length (faulty_calls s past) + one_if (b && (is_fault call.reply.outcome || is_failed call.reply.ack))) other ∙ omega arith
+
 -- a call on another source changes nothing
 module _ (plan : Plan) (receive : ReceiveSeen) (s : ℕ) (made : List (List ℕ)) (past : List Call) (fails : ℕ) (port : Seen) (faults : ℕ) (call : Call) where
   pub tied_other : eqb call.source s ≡ false → IsTied plan receive s made past fails port faults → IsTied plan receive s made (past ++ call ∷ []) fails port faults

@@ -1,0 +1,139 @@
+-- A history and what it leads to go on by one line.
+use Rattle.std.proofs.Common.{◌≡◌, ◌≤◌, ◌<◌, ℕ, ◌+◌, Bool, true, false, cond, eqb, ltb, List, [], ◌∷◌, ◌++◌, map, length, refl, sym, ap, subst, ◌∙◌, arith, append-nil, Option, Some, None}
+use Rattle.std.specs.Prelude.{slice_get, slice_set, is_some}
+use Rattle.std.proofs.lemmas.Bool.{eq-eqb, ne_eqb}
+use Rattle.std.proofs.lemmas.List.{length-append, length-set}
+use Rattle.apei_base.specs.Firmware.{Seen}
+use Rattle.ghes_call.specs.Packet.{PacketSeen}
+use Rattle.ghes_call.specs.Receive.{ReceiveSeen, IsOfSource}
+use Rattle.ghes_call.specs.declared.call.Call.{Call}
+use Rattle.ghes_ledger.proofs.StepLemmas.{raise_line, lawful_raise}
+use Rattle.ghes_ledger.proofs.WorkLemmas.{takings}
+use Rattle.ghes_ledger.specs.Asks.{Note, Setting, Clock, Fail, Peek, Asks, Quiet, Makes, Drains, Ends}
+use Rattle.ghes_ledger.specs.History.{Made, Executed, calls_in, taken_in, clock_by, clock_after, fails_by}
+use Rattle.ghes_ledger.specs.Kept.{Kept, mark_of}
+use Rattle.ghes_ledger.specs.Lawful.{written_to, peeked}
+use Rattle.ghes_ledger.specs.Names.{fatal_names, panic_names, fatals}
+use Rattle.ghes_ledger.specs.Plan.{Plan}
+use Rattle.ghes_ledger.specs.Queue.{blocks_of, queue, acknowledged, stuck_calls, faulty_calls, fails_in}
+use Rattle.ghes_ledger.specs.Reports.{reports_in, reports_at}
+use Rattle.ghes_nmi.specs.Receive.{receive_seen}
+use Rattle.ghes_lines.specs.Desk.{DeskSeen, worked, marked, drained}
+use Rattle.ghes_lines.specs.Follows.{blocks_in, IsTied, IsAccount, Follows}
+use Rattle.ghes_lines.specs.Machine.{plan_of}
+use Rattle.ghes_lines.specs.Port.{raised, IsPlanned}
+use Rattle.ghes_lines.specs.declared.machine.Machine.{Machine}
+use Rattle.ghes_lines.specs.declared.machine.Source.{Source}
+use Rattle.ghes_lines.proofs.LineLemmas.{at_set, few_of, account_still, account_work, account_end, quiet_line, lawful_quiet, taking_line, kept_with, drained_is, tells_more, by_source_none}
+
+-- the same calls, told otherwise
+pub tied_with : (plan : Plan) (receive : ReceiveSeen) (s : ℕ) (made made' : List (List ℕ)) (past past' : List Call) (fails fails' : ℕ) (port port' : Seen) (faults faults' : ℕ) → past' ≡ past → port'.layout ≡ port.layout → port'.made ≡ made' → port'.acknowledged ≡ port.acknowledged → port'.waits ≡ port.waits → port'.cell ≡ port.cell → port'.planned ≤ fails' → faults' ≡ faults → IsTied plan receive s made past fails port faults → IsTied plan receive s made' past' fails' port' faults'
+tied_with plan receive s made made' past past' fails fails' port port' faults faults' same layout now count waits cell few counts t = record {
+  source = subst (λ l. IsOfSource receive l) (sym layout) t.source;
+  made_is = now;
+  acknowledged_is = count ∙ t.acknowledged_is ∙ ap (acknowledged s) (sym same);
+  waits_is = waits ∙ t.waits_is ∙ ap (λ xs. ltb 0 (length (stuck_calls s xs))) (sym same);
+  cell_is = cell ∙ t.cell_is ∙ ap (λ xs. plan.cell s (written_to s xs)) (sym same);
+  failed = omega (arith, t.failed, counts, ap (λ xs. length (faulty_calls s xs)) same);
+  planned = few;
+}
+
+-- blocks that are not of a source, and one that is
+blocks_own : (s : ℕ) (block : List ℕ) → blocks_of s (record { source = s; bytes = block } ∷ []) ≡ block ∷ []
+blocks_own s block = ap (λ b. cond b (block ∷ []) [] ++ []) (eq-eqb s s refl)
+
+blocks_other : (s t : ℕ) (block : List ℕ) → (t ≡ s → ⊥) → blocks_of t (record { source = s; bytes = block } ∷ []) ≡ []
+blocks_other s t block differ = ap (λ b. cond b (block ∷ []) [] ++ []) (ne_eqb s t (λ e. differ (sym e)))
+
+module _ {P : Type 0} (seen : P → Seen) (faults : P → ℕ) (machine : Machine) where
+  abbrev plan : Plan
+  plan = plan_of machine
+
+  abbrev Ties : List Executed → ℕ → P → Type 0
+  Ties history t p = (source : Source) → slice_get machine.sources.items t ≡ Some source → IsTied plan (receive_seen source.receive) t (queue t history) (calls_in history) (fails_in t history) (seen p) (faults p)
+
+  -- without a panic list no call was fatal so far
+  pub none_fatal : (ports : List P) (desk : DeskSeen) (history : List Executed) → desk.ledger.panic ≡ [] → Follows seen faults machine ports desk history → fatal_names (calls_in history) ≡ []
+  none_fatal ports desk history none f = sym f.account.fatal_blocks ∙ ap (λ xs. panic_names (fatals xs)) none
+
+  -- the ties of a memory behind a line without calls and blocks
+  tied_still : (history : List Executed) (line : Executed) (t : ℕ) (p : P) → line.calls ≡ [] → line.made ≡ [] → Ties history t p → Ties (line ∷ history) t p
+  tied_still history line t p no_calls no_blocks ties source is =
+      let t_is = ties source is in
+      let same : calls_in history ++ line.calls ≡ calls_in history = ap (λ xs. calls_in history ++ xs) no_calls ∙ append-nil (calls_in history) in
+      let blocks : queue t history ++ blocks_of t line.made ≡ queue t history = ap (λ xs. queue t history ++ blocks_of t xs) no_blocks ∙ append-nil (queue t history) in
+      tied_with plan (receive_seen source.receive) t (queue t history) (queue t (line ∷ history)) (calls_in history) (calls_in (line ∷ history)) (fails_in t history) (fails_in t (line ∷ history)) (seen p) (seen p) (faults p) (faults p)
+      same refl (t_is.made_is ∙ sym blocks) refl refl refl (omega (arith, t_is.planned)) refl t_is
+
+  -- a line without calls
+  left_still : (history : List Executed) (line : Executed) (packets : List PacketSeen) → calls_in (line ∷ history) ≡ calls_in history → ((fatal_names (calls_in history) ≡ [] → ⊥) → packets ≡ []) → (fatal_names (calls_in (line ∷ history)) ≡ [] → ⊥) → packets ≡ []
+  left_still history line packets same left some = left (λ e. some (ap fatal_names same ∙ e))
+
+  -- after a line `raise`
+  pub follows_raise : (ports : List P) (desk : DeskSeen) (history : List Executed) (number s : ℕ) (block : List ℕ) (port port' : P) → slice_get ports s ≡ Some port → seen port' ≡ raised block (seen port) → faults port' ≡ faults port → desk.ledger.panic ≡ [] → Follows seen faults machine ports desk history → Follows seen faults machine (slice_set ports s port') (marked number (record desk { blocks = desk.blocks + 1 })) (raise_line number s block ∷ history)
+  follows_raise ports desk history number s block port port' at has counts none f =
+      let line = raise_line number s block in
+      let same : calls_in history ++ [] ≡ calls_in history = append-nil (calls_in history) in
+      let empty = none_fatal ports desk history none f in
+      let new : Ties (line ∷ history) s port' = λ source is.
+          let t = f.tied s source port is at in
+          tied_with plan (receive_seen source.receive) s (queue s history) (queue s (line ∷ history)) (calls_in history) (calls_in (line ∷ history)) (fails_in s history) (fails_in s (line ∷ history)) (seen port) (seen port') (faults port) (faults port')
+          same (ap (λ p. p.layout) has)
+          (ap (λ p. p.made) has ∙ ap (λ xs. xs ++ block ∷ []) t.made_is ∙ ap (λ xs. queue s history ++ xs) (sym (blocks_own s block)))
+          (ap (λ p. p.acknowledged) has) (ap (λ p. p.waits) has) (ap (λ p. p.cell) has)
+          (omega (arith, t.planned, ap (λ p. p.planned) has)) counts t in
+      let old : (t : ℕ) (p : P) → (t ≡ s → ⊥) → slice_get ports t ≡ Some p → Ties (line ∷ history) t p = λ t p differ there source is.
+          let t_is = f.tied t source p is there in
+          tied_with plan (receive_seen source.receive) t (queue t history) (queue t (line ∷ history)) (calls_in history) (calls_in (line ∷ history)) (fails_in t history) (fails_in t (line ∷ history)) (seen p) (seen p) (faults p) (faults p)
+          same refl (t_is.made_is ∙ sym (ap (λ xs. queue t history ++ xs) (blocks_other s t block differ) ∙ append-nil (queue t history))) refl refl refl (omega (arith, t_is.planned)) refl t_is in
+      record {
+        as_many = length-set ports s port' ∙ f.as_many;
+        tied = λ t source p is there. at_set (Ties (line ∷ history)) ports s port' new old t p there source is;
+        account = account_still plan history line desk.pending.packets desk.ledger.panic same (append-nil (taken_in history)) (lawful_raise plan number s block history empty (few_of plan history f.account.lines)) f.account;
+        tells = tells_more plan history line desk.ledger _ f.tells (sym (append-nil _) ∙ ap (λ xs. desk.ledger.calls ++ xs) (sym (by_source_none plan))) (sym (append-nil _)) (sym (append-nil _)) (sym (append-nil _)) (sym (append-nil _)) refl;
+        time = f.time;
+        slots = f.slots;
+        few = f.few;
+        blocks = ap (λ n. n + 1) f.blocks ∙ sym (length-append (blocks_in history) (record { source = s; bytes = block } ∷ []));
+        left = left_still history line desk.pending.packets same f.left;
+      }
+
+  -- after a line that takes all that is pending, told the account behind it
+  follows_taking : (ports : List P) (desk : DeskSeen) (history : List Executed) (asks : Asks) (number : ℕ) → ((time : ℕ) → clock_by asks time ≡ time) → ((s : ℕ) → fails_by s asks ≡ 0) → IsAccount plan (taking_line plan asks number history desk.pending.packets ∷ history) [] desk.ledger.panic → Follows seen faults machine ports desk history → Follows seen faults machine ports (marked number (worked desk)) (taking_line plan asks number history desk.pending.packets ∷ history)
+  follows_taking ports desk history asks number still sane account f =
+      let line = taking_line plan asks number history desk.pending.packets in
+      let old = desk.ledger in
+      let is = drained_is desk.clock desk.pending.packets old in
+      let same : calls_in history ++ [] ≡ calls_in history = append-nil (calls_in history) in
+      let taking : takings 0 desk.clock old.reports desk.pending.packets ≡ line.taken =
+      ap (λ t. takings 0 t old.reports desk.pending.packets) f.time ∙ ap (λ xs. takings 0 (clock_after history) xs desk.pending.packets) f.tells.reports in
+      let A : _ → Type 0 = λ panic. IsAccount plan (line ∷ history) [] panic in
+      record {
+        as_many = f.as_many;
+        tied = λ t source p here there. tied_still history line t p refl refl (λ other at. f.tied t other p at there) source here;
+        account = subst A (sym (ap (λ k. k.panic) is)) account;
+        tells = tells_more plan history line old (marked number (worked desk)).ledger f.tells
+            (ap (λ k. k.calls) is ∙ sym (append-nil old.calls) ∙ ap (λ xs. old.calls ++ xs) (sym (by_source_none plan)))
+            (ap (λ k. k.taken) is ∙ ap (λ xs. old.taken ++ xs) taking)
+            (ap (λ k. k.reports) is ∙ ap (λ t. old.reports ++ reports_at t (takings 0 desk.clock old.reports desk.pending.packets)) f.time ∙ ap (λ xs. old.reports ++ reports_at (clock_after history) xs) taking)
+            (ap (λ k. k.injections) is ∙ sym (append-nil old.injections))
+            (ap (λ k. k.peeks) is ∙ sym (append-nil old.peeks))
+            (ap (λ k. k.marks ++ mark_of number (drained desk.clock desk.pending.packets old) ∷ []) is);
+        time = f.time ∙ sym (still (clock_after history));
+        slots = f.slots;
+        few = omega arith;
+        blocks = f.blocks ∙ ap length (sym (append-nil (blocks_in history)));
+        left = λ some. refl;
+      }
+
+  -- after a line `work`
+  pub follows_work : (ports : List P) (desk : DeskSeen) (history : List Executed) (number : ℕ) → desk.ledger.panic ≡ [] → Follows seen faults machine ports desk history → Follows seen faults machine ports (marked number (worked desk)) (taking_line plan Drains number history desk.pending.packets ∷ history)
+  follows_work ports desk history number none f =
+      follows_taking ports desk history Drains number (λ time. refl) (λ s. refl)
+      (account_work plan number history desk.pending.packets desk.ledger.panic (none_fatal ports desk history none f) f.account) f
+
+  -- after the end of a script
+  pub follows_end : (ports : List P) (desk : DeskSeen) (history : List Executed) → Follows seen faults machine ports desk history → Follows seen faults machine ports (marked 0 (worked desk)) (taking_line plan Ends 0 history desk.pending.packets ∷ history)
+  follows_end ports desk history f =
+      follows_taking ports desk history Ends 0 (λ time. refl) (λ s. refl)
+      (account_end plan 0 history desk.pending.packets desk.ledger.panic f.left f.account) f
