@@ -1,5 +1,7 @@
+pub mod Apart
 pub mod Areas
 pub mod Map
+pub mod Mapped
 pub mod Overlap
 pub mod Placement
 pub mod Registers

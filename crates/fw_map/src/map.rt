@@ -3,6 +3,7 @@ ghost use Rattle.std.specs.Prelude.{◌≡◌, ◌++◌, IfOk, IfErr, OnOk, opti
 ghost use Rattle.std.specs.List.{AllByRecursion};
 ghost use Rattle.apei_hest.specs.Refusal.{enabled};
 ghost use Rattle.apei_hest.specs.Sound.{IsSound};
+ghost use Rattle.fw_map.specs.Apart.{AreToldApart};
 ghost use Rattle.fw_map.specs.Areas.{IsTriggerOf};
 ghost use Rattle.fw_map.specs.Map.{IsMapOf, IsRefusedWith};
 ghost use Rattle.fw_map.specs.Overlap.{AreApart, Overlaps};
@@ -105,6 +106,7 @@ fn trigger_of(taken: &mut Vec<Run>, einj: Option<&Einj>) -> Result<Option<Trigge
 fn map_of(alloc: Global, sources: &[Ghes], einj: Option<&Einj>) -> Result<Map, FwError>
     requires { AllByRecursion IsSound sources.now }
     ensures found { IfOk result (IsMapOf sources.now (option_copied einj.entry)) }
+    ensures apart { IfOk result (λ map. AreToldApart sources.now map.areas.items) }
     ensures refused { IfErr result (IsRefusedWith sources.now (option_copied einj.entry)) }
 {
     let registers = match registers_of(alloc, sources, einj) {
@@ -133,6 +135,7 @@ impl Map {
     pub fn of(alloc: Global, hest: &Hest, einj: Option<&Einj>) -> Result<Map, FwError>
         ensures found { IfOk result
             (λ map. IsMapOf (enabled hest.now) (option_copied einj.entry) map) }
+        ensures apart { IfOk result (λ map. AreToldApart (enabled hest.now) map.areas.items) }
         ensures refused { IfErr result
             (λ error. IsRefusedWith (enabled hest.now) (option_copied einj.entry) error) }
     {
