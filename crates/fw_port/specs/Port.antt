@@ -1,7 +1,7 @@
 -- A port of one error source, as callers see it.
-use Rattle.std.specs.Prelude.{◌≡◌, ℕ, ◌+◌, ◌^◌, Bool, false, ◌&&◌, nat_lt, if◌then◌else◌, List, [], ◌∷◌, ◌++◌, length, option_map}
+use Rattle.std.specs.Prelude.{◌≡◌, ◌≤◌, ◌%◌, Option, Some, None, ℕ, ◌+◌, ◌^◌, Bool, false, ◌&&◌, nat_lt, if◌then◌else◌, List, [], ◌∷◌, ◌++◌, length, option_map}
 use Rattle.fault_plan.specs.Plan.{Calls, no_calls, with_failing, with_call, fails_next, one_if}
-use Rattle.apei_base.specs.Bus.{reach_of}
+use Rattle.apei_base.specs.Bus.{Reach, reach_of}
 use Rattle.apei_base.specs.Firmware.{Layout, Seen}
 use Rattle.fw_port.specs.declared.layout.SourceLayout.{SourceLayout}
 use Rattle.fw_port.specs.declared.memory.SourceMemory.{SourceMemory}
@@ -47,9 +47,19 @@ unused layout = record { layout = layout; cell = 0; made = []; acknowledged = 0;
 abbrev pub raised : List ℕ → Seen → Seen
 raised block seen = record seen { made = seen.made ++ block ∷ [] }
 
--- the source where the read ack register holds another value (own choice)
+-- the low bits of a value, as many as a register is wide; 0 where there is none (own choice)
+abbrev pub cell_in : Option Reach → ℕ → ℕ
+cell_in None value = 0
+cell_in (Some register) value = value % 2 ^ register.width
+
+-- the source where the read ack register holds the low bits of another value (own choice)
 abbrev pub with_cell : ℕ → Seen → Seen
-with_cell value seen = record seen { cell = value }
+with_cell value seen = record seen { cell = cell_in seen.layout.ack value }
+
+-- what a read ack register holds, if there is one (own choice)
+abbrev pub cell_of : Option Reach → ℕ → Option ℕ
+cell_of None cell = None
+cell_of (Some register) cell = Some cell
 
 -- The accesses where the n-th from here on is named to fail as well: one that was named already is not named twice, and
 -- there is no access 0, nor one past number 2 ^ 64 - 1 (own choice).
@@ -74,7 +84,8 @@ pub record KeepsAccesses (old new : SourcePort) : Type 0 where
   pub accesses : accesses_of new ≡ accesses_of old
   pub faults : faults_of new ≡ faults_of old
 
--- all is the same but which accesses are to fail (own choice)
+-- all is the same but which accesses are to fail, and at most one more is (own choice)
 pub record IsOtherwiseSame (old new : SourcePort) : Type 0 where
-  pub seen : seen new ≡ record (seen old) { planned = length (accesses_of new).failing }
+  pub otherwise : seen new ≡ record (seen old) { planned = length (accesses_of new).failing }
+  pub more : (seen new).planned ≤ (seen old).planned + 1
   pub faults : faults_of new ≡ faults_of old

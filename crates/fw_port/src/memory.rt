@@ -97,7 +97,7 @@ impl SourceMemory {
     /// What the read ack register holds is set, outside of any access.
     pub fn set_cell(&mut self, register: &Region, value: u64)
         requires { option_map reach_of self.old.layout.ack ≡ Some (reach_of register.now) }
-        ensures { seen_of self.new ≡ with_cell (value % 2 ^ register.now.width) (seen_of self.old) }
+        ensures { seen_of self.new ≡ with_cell value (seen_of self.old) }
     {
         self.cell = register.low_bits(value);
     }

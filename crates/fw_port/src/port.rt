@@ -1,6 +1,5 @@
 //! A port of one source.
-ghost use Rattle.std.specs.Prelude.{◌≡◌, ◌<◌, ◌+◌, ◌-◌, ◌%◌, ◌^◌, ℕ, Some, None, if◌then◌else◌, is_some, length, is_err, IsTrue, IfOk, OnOk, OnErr};
-ghost use Rattle.std.specs.Option.{ForSome};
+ghost use Rattle.std.specs.Prelude.{◌≡◌, ◌<◌, ◌+◌, ◌-◌, ◌^◌, Some, is_some, length, is_err, IsTrue, IfOk, OnOk, OnErr};
 ghost use Rattle.apei_base.specs.Bus.{Reads, Copies, IsOneAccess, CountsFaults, reach_of, write_of};
 ghost use Rattle.apei_base.specs.Firmware.{IsRaised};
 ghost use Rattle.fw_port.specs.Port.{seen, accesses_of, faults_of, IsCounted};
@@ -26,7 +25,7 @@ pub struct SourcePort {
 }
 
 impl SourcePort {
-    ghost use Rattle.fw_port.specs.Port.{layout_of, raised, with_cell, with_named, IsUnused, IsOtherwiseSame, KeepsAccesses};
+    ghost use Rattle.fw_port.specs.Port.{layout_of, raised, cell_of, with_cell, with_named, IsUnused, IsOtherwiseSame, KeepsAccesses};
 
     /// The port of a source that nothing has happened to.
     #[tactic(auto, unfolding(fault_plan::specs::Plan::with_numbers))]
@@ -63,15 +62,15 @@ impl SourcePort {
 
     /// How many blocks are acknowledged.
     pub fn acknowledged(&self) -> u32
-        ensures { result ≡ (seen self.now).acknowledged }
+        ensures value { result ≡ (seen self.now).acknowledged }
+        ensures few { result < 2 ^ 32 - 1 }
     {
         self.memory.acknowledged as u32
     }
 
     /// What the read ack register holds, none for a source of version 1.
     pub fn ack_cell(&self) -> Option<u64>
-        ensures { result ≡ (if is_some (seen self.now).layout.ack then Some (seen self.now).cell
-            else None) }
+        ensures { result ≡ cell_of (seen self.now).layout.ack (seen self.now).cell }
     {
         match &self.memory.layout.ack {
             Some(_) => Some(self.memory.cell),
@@ -82,8 +81,7 @@ impl SourcePort {
     /// The read ack register holds the low bits of a value, as many as it is wide. That is no access.
     pub fn set_ack_cell(&mut self, value: u64)
         requires { IsTrue (is_some (seen self.old).layout.ack) }
-        ensures cell { ForSome (seen self.old).layout.ack (λ register.
-            seen self.new ≡ with_cell (value % 2 ^ register.width) (seen self.old)) }
+        ensures cell { seen self.new ≡ with_cell value (seen self.old) }
         ensures kept { KeepsAccesses self.old self.new }
     {
         if let Some(ack) = self.memory.layout.ack {
