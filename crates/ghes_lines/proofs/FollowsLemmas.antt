@@ -137,3 +137,67 @@ module _ {P : Type 0} (seen : P → Seen) (faults : P → ℕ) (machine : Machin
   follows_end ports desk history f =
       follows_taking ports desk history Ends 0 (λ time. refl) (λ s. refl)
       (account_end plan 0 history desk.pending.packets desk.ledger.panic f.left f.account) f
+
+  -- after a line that makes no call and no block and takes nothing, told the ties behind it
+  follows_quiet : (ports ports' : List P) (desk desk' : DeskSeen) (history : List Executed) (number : ℕ) (note : Note) (peeks : List ℕ) → length ports' ≡ length ports → ((t : ℕ) (source : Source) (p : P) → slice_get machine.sources.items t ≡ Some source → slice_get ports' t ≡ Some p → IsTied plan (receive_seen source.receive) t (queue t history) (calls_in history) (fails_in t history + fails_by t (Quiet note)) (seen p) (faults p)) → desk'.pending ≡ desk.pending → desk'.blocks ≡ desk.blocks → desk'.clock ≡ clock_by (Quiet note) desk.clock → desk'.ledger ≡ record desk.ledger { peeks = peeks } → peeks ≡ desk.ledger.peeks ++ peeked plan history (Quiet note) → desk.ledger.panic ≡ [] → Follows seen faults machine ports desk history → Follows seen faults machine ports' (marked number desk') (quiet_line plan number note history ∷ history)
+  follows_quiet ports ports' desk desk' history number note peeks as_many ties pending blocks clock ledger peeks_is none f =
+      let line = quiet_line plan number note history in
+      let same : calls_in history ++ [] ≡ calls_in history = append-nil (calls_in history) in
+      let empty = none_fatal ports desk history none f in
+      let account = account_still plan history line desk.pending.packets desk.ledger.panic same (append-nil (taken_in history)) (lawful_quiet plan number note history empty (few_of plan history f.account.lines)) f.account in
+      record {
+        as_many = as_many ∙ f.as_many;
+        tied = λ t source p is there.
+            let t_is = ties t source p is there in
+            tied_with plan (receive_seen source.receive) t (queue t history) (queue t (line ∷ history)) (calls_in history) (calls_in (line ∷ history)) (fails_in t history + fails_by t (Quiet note)) (fails_in t (line ∷ history)) (seen p) (seen p) (faults p) (faults p)
+            same refl (t_is.made_is ∙ sym (append-nil (queue t history))) refl refl refl t_is.planned refl t_is;
+        account = subst (λ panic. IsAccount plan (line ∷ history) (marked number desk').pending.packets panic) (sym (ap (λ k. k.panic) ledger)) (subst (λ (q : _). IsAccount plan (line ∷ history) q.packets desk.ledger.panic) (sym pending) account);
+        tells = tells_more plan history line desk.ledger _ f.tells
+            (ap (λ k. k.calls) ledger ∙ sym (append-nil _) ∙ ap (λ xs. desk.ledger.calls ++ xs) (sym (by_source_none plan)))
+            (ap (λ k. k.taken) ledger ∙ sym (append-nil _))
+            (ap (λ k. k.reports) ledger ∙ sym (append-nil _))
+            (ap (λ k. k.injections) ledger ∙ sym (append-nil _))
+            (ap (λ k. k.peeks) ledger ∙ peeks_is)
+            (ap (λ k. k.marks ++ mark_of number desk'.ledger ∷ []) ledger);
+        time = clock ∙ ap (clock_by (Quiet note)) f.time;
+        slots = ap (λ q. q.slots) pending ∙ f.slots;
+        few = subst (λ (q : _). length q.packets ≤ machine.slots) (sym pending) f.few;
+        blocks = blocks ∙ f.blocks ∙ ap length (sym (append-nil (blocks_in history)));
+        left = subst (λ (q : _). (fatal_names (calls_in (line ∷ history)) ≡ [] → ⊥) → q.packets ≡ []) (sym pending) (left_still history line desk.pending.packets same f.left);
+      }
+
+  -- ties that hold of more accesses to fail
+  ties_more : (ports : List P) (desk : DeskSeen) (history : List Executed) (asks : Asks) → Follows seen faults machine ports desk history → (t : ℕ) (source : Source) (p : P) → slice_get machine.sources.items t ≡ Some source → slice_get ports t ≡ Some p → IsTied plan (receive_seen source.receive) t (queue t history) (calls_in history) (fails_in t history + fails_by t asks) (seen p) (faults p)
+  ties_more ports desk history asks f t source p is there =
+      let t_is = f.tied t source p is there in
+      tied_with plan (receive_seen source.receive) t (queue t history) (queue t history) (calls_in history) (calls_in history) (fails_in t history) (fails_in t history + fails_by t asks) (seen p) (seen p) (faults p) (faults p)
+      refl refl t_is.made_is refl refl refl (omega (arith, t_is.planned)) refl t_is
+
+  -- after a setting
+  pub follows_setting : (ports : List P) (desk : DeskSeen) (history : List Executed) (number : ℕ) → desk.ledger.panic ≡ [] → Follows seen faults machine ports desk history → Follows seen faults machine ports (marked number desk) (quiet_line plan number Setting history ∷ history)
+  follows_setting ports desk history number none f = follows_quiet ports ports desk desk history number Setting desk.ledger.peeks refl (ties_more ports desk history (Quiet Setting) f) refl refl refl refl (sym (append-nil _)) none f
+
+  -- after a line `clock`
+  pub follows_clock : (ports : List P) (desk : DeskSeen) (history : List Executed) (number time : ℕ) → desk.ledger.panic ≡ [] → Follows seen faults machine ports desk history → Follows seen faults machine ports (marked number (record desk { clock = time })) (quiet_line plan number (Clock time) history ∷ history)
+  follows_clock ports desk history number time none f = follows_quiet ports ports desk (record desk { clock = time }) history number (Clock time) desk.ledger.peeks refl (ties_more ports desk history (Quiet (Clock time)) f) refl refl refl refl (sym (append-nil _)) none f
+
+  -- after a line `peek`
+  pub follows_peek : (ports : List P) (desk : DeskSeen) (history : List Executed) (number s : ℕ) (source : Source) (port : P) → slice_get machine.sources.items s ≡ Some source → slice_get ports s ≡ Some port → desk.ledger.panic ≡ [] → Follows seen faults machine ports desk history → Follows seen faults machine ports (marked number (record desk { ledger = record desk.ledger { peeks = desk.ledger.peeks ++ (seen port).cell ∷ [] } })) (quiet_line plan number (Peek s) history ∷ history)
+  follows_peek ports desk history number s source port is there none f =
+      follows_quiet ports ports desk (record desk { ledger = record desk.ledger { peeks = desk.ledger.peeks ++ (seen port).cell ∷ [] } }) history number (Peek s) (desk.ledger.peeks ++ (seen port).cell ∷ []) refl (ties_more ports desk history (Quiet (Peek s)) f) refl refl refl refl
+      (ap (λ n. desk.ledger.peeks ++ n ∷ []) (f.tied s source port is there).cell_is) none f
+
+  -- after a line `fail`
+  pub follows_fail : (ports : List P) (desk : DeskSeen) (history : List Executed) (number s : ℕ) (port port' : P) → slice_get ports s ≡ Some port → IsPlanned (seen port) (seen port') → faults port' ≡ faults port → desk.ledger.panic ≡ [] → Follows seen faults machine ports desk history → Follows seen faults machine (slice_set ports s port') (marked number desk) (quiet_line plan number (Fail s) history ∷ history)
+  follows_fail ports desk history number s port port' there planned counts none f =
+      let asks : Asks = Quiet (Fail s) in
+      let one : fails_by s asks ≡ 1 = ap (λ b. cond b 1 0) (eq-eqb s s refl) in
+      let Q : ℕ → P → Type 0 = λ t p. (source : Source) → slice_get machine.sources.items t ≡ Some source → IsTied plan (receive_seen source.receive) t (queue t history) (calls_in history) (fails_in t history + fails_by t asks) (seen p) (faults p) in
+      let new : Q s port' = λ source is.
+          let t = f.tied s source port is there in
+          tied_with plan (receive_seen source.receive) s (queue s history) (queue s history) (calls_in history) (calls_in history) (fails_in s history) (fails_in s history + fails_by s asks) (seen port) (seen port') (faults port) (faults port')
+          refl (ap (λ p. p.layout) planned.kept) (ap (λ p. p.made) planned.kept ∙ t.made_is) (ap (λ p. p.acknowledged) planned.kept) (ap (λ p. p.waits) planned.kept) (ap (λ p. p.cell) planned.kept)
+          (omega (arith, planned.more, t.planned, one)) counts t in
+      follows_quiet ports (slice_set ports s port') desk desk history number (Fail s) desk.ledger.peeks (length-set ports s port')
+      (λ t source p is p_there. at_set Q ports s port' new (λ r y differ y_there other at. ties_more ports desk history asks f r other y at y_there) t p p_there source is)
+      refl refl refl refl (sym (append-nil _)) none f

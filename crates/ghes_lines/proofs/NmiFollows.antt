@@ -1,5 +1,5 @@
 -- A history and what it leads to go on by a line with one call.
-use Rattle.std.proofs.Common.{◌≡◌, ◌≤◌, ◌<◌, ℕ, ◌+◌, Bool, true, false, eqb, ◌⊎◌, inl, inr, List, [], ◌∷◌, ◌++◌, map, length, refl, sym, ap, subst, ◌∙◌, arith, append-nil, Option, Some, None}
+use Rattle.std.proofs.Common.{◌≡◌, ◌≤◌, ◌<◌, ℕ, ◌+◌, Bool, true, false, eqb, ◌⊎◌, inl, inr, List, [], ◌∷◌, ◌++◌, map, length, refl, sym, ap, subst, ◌∙◌, arith, append-nil, Option, Some, None, unwrap_or}
 use Rattle.std.specs.Prelude.{slice_get, slice_set, is_some}
 use Rattle.std.proofs.lemmas.Bool.{eq-eqb, ne_eqb, cases_eq, leb-true, leb-false}
 use Rattle.std.proofs.lemmas.List.{length-append, length-map, length-set}
@@ -17,8 +17,8 @@ use Rattle.ghes_ledger.proofs.Serial.{keeps_queued, keeps_other, keeps_fatal}
 use Rattle.ghes_ledger.proofs.StepLemmas.{call_line, lawful_call}
 use Rattle.ghes_ledger.specs.Asks.{Calls}
 use Rattle.ghes_ledger.specs.History.{Executed, calls_in, taken_in, clock_after}
-use Rattle.ghes_ledger.specs.Kept.{Kept, panic_entry}
-use Rattle.ghes_ledger.specs.Lawful.{FitsLook, HasRoom, IsImageIn, IsLawfulLine}
+use Rattle.ghes_ledger.specs.Kept.{Kept, panic_entry, mark_of}
+use Rattle.ghes_ledger.specs.Lawful.{FitsBlock, FitsLook, HasRoom, IsImageIn, IsLawfulLine}
 use Rattle.ghes_ledger.specs.Names.{name_of, queued_names, fatal_names, taken_names}
 use Rattle.ghes_ledger.specs.Outcomes.{acknowledges, number_of, pending_number, fatal_number}
 use Rattle.ghes_ledger.specs.Plan.{Plan}
@@ -34,7 +34,7 @@ use Rattle.ghes_lines.specs.Pending.{is_full}
 use Rattle.ghes_lines.specs.declared.machine.Machine.{Machine}
 use Rattle.ghes_lines.specs.declared.machine.Source.{Source}
 use Rattle.ghes_lines.proofs.AnswerLemmas.{IsFor, IsFree, Says}
-use Rattle.ghes_lines.proofs.FollowsLemmas.{none_fatal}
+use Rattle.ghes_lines.proofs.FollowsLemmas.{none_fatal, tied_with}
 use Rattle.ghes_lines.proofs.LineLemmas.{at_set, keeps_of, account_of, few_of, tells_more, by_source_one}
 use Rattle.ghes_lines.proofs.NmiLemmas.{IsSource, says, call_lawful, call_looks, call_tied, packet_image}
 use Rattle.ghes_lines.proofs.TiedLemmas.{tied_other, faulty_other}
@@ -87,6 +87,17 @@ mild : (calls : List Call) (call : Call) → fatal_number call.reply.outcome ≡
 mild calls call none empty =
     flat_map-append _ calls (call ∷ []) ∙ ap (λ xs. xs ++ fatal_names (call ∷ [])) empty
     ∙ append-nil _ ∙ ap (map (λ number. (call.source, number))) none
+
+-- an outcome that acknowledges says that a block stands
+stands_with : (limit : ℕ) (stands : Option (List ℕ)) (outcome : Outcome) → FitsBlock limit stands outcome → acknowledges outcome ≡ true → (block : List ℕ) × (stands ≡ Some block)
+stands_with limit stands Nothing fits says_so = absurd cc
+stands_with limit stands (Queued n) fits says_so = (fits.0, fits.1)
+stands_with limit stands (Malformed n reason) fits says_so = (fits.0, fits.1)
+stands_with limit stands (Duplicate n report) fits says_so = (fits.0, fits.1)
+stands_with limit stands (Fatal n) fits says_so = (fits.0, fits.1)
+stands_with limit stands NoSlot fits says_so = absurd cc
+stands_with limit stands Fault fits says_so = absurd cc
+stands_with limit stands Stopped fits says_so = absurd cc
 
 -- in a line with one call a block is made pending only where a slot is free
 has_room : (plan : Plan) (before : List Executed) (full : Bool) (s context now : ℕ) (outcome : Outcome) (ack : AckState) → IsFree full outcome → (full ≡ false → length (queued_names (calls_in before)) < plan.slots + length (taken_in before)) → HasRoom plan before (Calls s) (record { context = context; source = s; now = now; reply = record { outcome = outcome; ack = ack } } ∷ [])
@@ -172,3 +183,88 @@ module _ (plan : Plan) (history : List Executed) (number context s n : ℕ) (pac
         few = omega arith;
         left = λ some. refl;
       }
+
+module _ {P : Type 0} (seen : P → Seen) (faults : P → ℕ) (machine : Machine) (block_len : ℕ) where
+  abbrev plan : Plan
+  plan = plan_of machine
+
+  abbrev Ties : List Executed → ℕ → P → Type 0
+  Ties history t p = (source : Source) → slice_get machine.sources.items t ≡ Some source → IsTied plan (receive_seen source.receive) t (queue t history) (calls_in history) (fails_in t history) (seen p) (faults p)
+
+  -- ties that hold behind a call hold behind its line
+  tied_line : (receive : ReceiveSeen) (history : List Executed) (number s t : ℕ) (call : Call) (port : Seen) (count : ℕ) → IsTied plan receive t (queue t history) (calls_in history ++ call ∷ []) (fails_in t history) port count → IsTied plan receive t (queue t (call_line number s call ∷ history)) (calls_in history ++ call ∷ []) (fails_in t (call_line number s call ∷ history)) port count
+  tied_line receive history number s t call port count is =
+      tied_with plan receive t (queue t history) (queue t (call_line number s call ∷ history)) (calls_in history ++ call ∷ []) (calls_in history ++ call ∷ []) (fails_in t history) (fails_in t (call_line number s call ∷ history)) port port count count
+      refl refl (is.made_is ∙ sym (append-nil (queue t history))) refl refl refl (omega (arith, is.planned)) refl is
+
+  -- after a line `nmi`
+  pub follows_nmi : (ports : List P) (desk desk' : DeskSeen) (history : List Executed) (number s : ℕ) (source : Source) (port port' : P) → slice_get machine.sources.items s ≡ Some source → FitsSource machine.contexts block_len source → slice_get ports s ≡ Some port → faults port' ≤ (seen port').planned → desk.ledger.panic ≡ [] → (nmi : IsNmi (receive_seen source.receive) source.server s (seen port) (seen port') (faults port) (faults port') desk desk') → Follows seen faults machine ports desk history → Follows seen faults machine (slice_set ports s port') (marked number desk') (call_line number s (record { context = source.server; source = s; now = desk.clock; reply = nmi.reply }) ∷ history)
+  follows_nmi ports desk desk' history number s source port port' at fits there sound none nmi f =
+      let receive = receive_seen source.receive in
+      let outcome = nmi.reply.outcome in
+      let ack = nmi.reply.ack in
+      let packets = desk.pending.packets in
+      let past = calls_in history in
+      let call : Call = record { context = source.server; source = s; now = desk.clock; reply = nmi.reply } in
+      let line = call_line number s call in
+      let packet = standing_packet s receive.limit (seen port) in
+      let is = source_in machine block_len s source at fits in
+      let first = first_cell (Some source) in
+      let t = f.tied s source port at there in
+      let empty = none_fatal seen faults machine ports desk history none f in
+      let account : IsAccount plan history packets [] = subst (λ panic. IsAccount plan history packets panic) none f.account in
+      let queued = count_queued plan history packets account in
+      let more : length (queued_names (past ++ call ∷ [])) ≡ length (queued_names past) + length (queued_names (call ∷ [])) = ap length (flat_map-append _ past (call ∷ [])) ∙ length-append (queued_names past) (queued_names (call ∷ [])) in
+      let many : is_full desk.pending ≡ true → plan.slots + length (taken_in history) ≤ length (queued_names (calls_in (line ∷ history))) = λ full. omega (arith, queued, more, f.slots, leb-true desk.pending.slots (length packets) full) in
+      let free : is_full desk.pending ≡ false → length (queued_names past) < plan.slots + length (taken_in history) = λ free. omega (arith, queued, f.slots, leb-false desk.pending.slots (length packets) free) in
+      let said = says plan receive source.server first s is history line past (fails_in s history) (seen port) (seen port') (faults port) (faults port') desk nmi.between nmi.fatal outcome ack t nmi.call many in
+      let lawful = call_lawful plan receive source.server first s is history line past (fails_in s history) (seen port) (seen port') (faults port) (faults port') desk nmi.between nmi.fatal outcome ack t nmi.call f.time many in
+      let tied' = call_tied plan receive source.server first s is history line past (fails_in s history) (seen port) (seen port') (faults port) (faults port') desk nmi.between nmi.fatal outcome ack t nmi.call said.block in
+      let looks = call_looks plan receive source.server first s is history line past (fails_in s history) (seen port) (seen port') (faults port) (faults port') desk nmi.between nmi.fatal outcome ack t nmi.call in
+      let looks_now : FitsLook plan.places (plan.limit s) (standing s history past) (reports_in history) desk.clock outcome = subst (λ reports. FitsLook plan.places (plan.limit s) (standing s history past) reports desk.clock outcome) f.tells.reports looks in
+      let few : (r : ℕ) → length (faulty_calls r (past ++ call ∷ [])) ≤ fails_in r history = λ r. elim (cases_eq r s) [
+        | inl same ↦ subst (λ n. length (faulty_calls n (past ++ call ∷ [])) ≤ fails_in n history) (sym same) (omega (arith, tied'.failed, sound, tied'.planned))
+        | inr differ ↦ omega (arith, few_of plan history account.lines r, faulty_other r past call (ne_eqb s r (λ e. differ (sym e))))
+      ] in
+      let lawful_line = lawful_call plan number call history empty lawful (has_room plan history (is_full desk.pending) s source.server desk.clock outcome ack said.free free) looks_now few in
+      let b = behind_call plan history number source.server s ((seen port).acknowledged + 1) packet desk outcome ack
+      (record {
+        account = account;
+        panic = none;
+        empty = empty;
+        lawful = lawful_line;
+        few = omega (arith, f.few, f.slots);
+        free = said.free;
+        next = ap (λ n. n + 1) t.acknowledged_is;
+        seq = refl;
+        source = refl;
+      }) said.for (λ says_so. packet_image plan receive source.server first s is history line past (fails_in s history) (seen port) (seen port') (faults port) (faults port') desk nmi.between nmi.fatal t (stands_with receive.limit (standing s history past) outcome said.block says_so).0 (stands_with receive.limit (standing s history past) outcome said.block says_so).1) in
+      let after = behind plan history number source.server s ((seen port).acknowledged + 1) packet desk outcome ack in
+      let before_panic = entered call (with_packets (queued_by outcome packet packets) desk) in
+      let desk_is : desk' ≡ after = nmi.desk_is ∙ ap (λ o. panicked_by o (entered call nmi.between)) nmi.call.fatal_is ∙ ap (λ d. panicked_by (fatal_by outcome packet) (entered call d)) nmi.call.pending in
+      let ledger : after.ledger ≡ with_panic after.ledger.panic before_panic.ledger = ledger_is (fatal_by outcome packet) before_panic in
+      let new : Ties (line ∷ history) s port' = λ other other_at.
+          let same : source ≡ other = ap (λ o. unwrap_or o source) (sym at ∙ other_at) in
+          subst (λ (o : Source). IsTied plan (receive_seen o.receive) s (queue s (line ∷ history)) (calls_in (line ∷ history)) (fails_in s (line ∷ history)) (seen port') (faults port')) same
+          (tied_line receive history number s s call (seen port') (faults port') tied') in
+      let old : (r : ℕ) (p : P) → (r ≡ s → ⊥) → slice_get ports r ≡ Some p → Ties (line ∷ history) r p = λ r p differ p_there other other_at.
+          tied_line (receive_seen other.receive) history number s r call (seen p) (faults p)
+          (tied_other plan (receive_seen other.receive) r (queue r history) past (fails_in r history) (seen p) (faults p) call (ne_eqb s r (λ e. differ (sym e))) (f.tied r other p other_at p_there)) in
+      subst (λ (d : DeskSeen). Follows seen faults machine (slice_set ports s port') (marked number d) (line ∷ history)) (sym desk_is)
+      (record {
+        as_many = length-set ports s port' ∙ f.as_many;
+        tied = λ r other p other_at p_there. at_set (Ties (line ∷ history)) ports s port' new old r p p_there other other_at;
+        account = b.account;
+        tells = tells_more plan history line desk.ledger _ f.tells
+            (ap (λ k. k.calls) ledger ∙ ap (λ xs. desk.ledger.calls ++ xs) (sym (by_source_one plan call is.inside)))
+            (ap (λ k. k.taken) ledger ∙ sym (append-nil _))
+            (ap (λ k. k.reports) ledger ∙ sym (append-nil _))
+            (ap (λ k. k.injections) ledger ∙ sym (append-nil _))
+            (ap (λ k. k.peeks) ledger ∙ sym (append-nil _))
+            (ap (λ k. k.marks ++ mark_of number after.ledger ∷ []) ledger);
+        time = clock_is (fatal_by outcome packet) before_panic ∙ f.time;
+        slots = slots_is (fatal_by outcome packet) before_panic ∙ f.slots;
+        few = omega (arith, b.few, f.slots);
+        blocks = blocks_is (fatal_by outcome packet) before_panic ∙ f.blocks ∙ ap length (sym (append-nil (blocks_in history)));
+        left = b.left;
+      })
