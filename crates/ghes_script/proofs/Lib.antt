@@ -1,3 +1,4 @@
+pub mod CalledLemmas
 pub mod CutLemmas
 pub mod FormLemmas
 pub mod InjectLemmas

@@ -45,7 +45,7 @@ length-joined (word ∷ words) =
     let rest = length-joined words in
     omega (arith, length-append word (32 ∷ joined words))
 
-no_space : (word : List ℕ) → Plain word → AllByRecursion (λ byte. byte ≢ 32) word
+pub no_space : (word : List ℕ) → Plain word → AllByRecursion (λ byte. byte ≢ 32) word
 no_space [] plain = tt
 no_space (x ∷ xs) plain = let low : 33 ≤ x = plain.0.0 in (λ e. omega (arith, e), no_space xs plain.1)
 
@@ -55,10 +55,10 @@ words_of-joined (word ∷ words) all =
     words_of-cut (word ++ 32 ∷ joined words) word (joined words) (record { unmarked = no_space word all.0.plain; cut = inl refl }) all.0.some
     ∙ ap (λ ws. word ∷ ws) (words_of-joined words all.1)
 
-both : (a b : Bool) → a ≡ true → b ≡ true → (a && b) ≡ true
+pub both : (a b : Bool) → a ≡ true → b ≡ true → (a && b) ≡ true
 both a b e f = ap (λ x. x && b) e ∙ f
 
-printable_front : (word rest : List ℕ) → Plain word → list_all is_printable rest ≡ true → list_all is_printable (word ++ rest) ≡ true
+pub printable_front : (word rest : List ℕ) → Plain word → list_all is_printable rest ≡ true → list_all is_printable (word ++ rest) ≡ true
 printable_front [] rest plain more = more
 printable_front (x ∷ xs) rest plain more =
     let low : 33 ≤ x = plain.0.0 in
@@ -69,7 +69,7 @@ printable-joined [] all = refl
 printable-joined (word ∷ words) all = printable_front word (32 ∷ joined words) all.0.plain (printable-joined words all.1)
 
 -- digits can stand in a word
-plain_digits : (digits : List ℕ) → AllDigits 10 digits → Plain digits
+pub plain_digits : (digits : List ℕ) → AllDigits 10 digits → Plain digits
 plain_digits [] all = tt
 plain_digits (c ∷ cs) all = let range = digit_from_value c all.0 in ((omega (arith, range.0), omega (arith, range.1)), plain_digits cs all.1)
 
@@ -78,7 +78,7 @@ each_digit [] all = refl
 each_digit (c ∷ cs) all = both (ltb (digit_value c) 10) (list_all (λ c. is_digit c 10) cs) (lt-ltb (digit_value c) 10 all.0) (each_digit cs all.1)
 
 -- digits do not begin with `0x`
-no_mark : (digits : List ℕ) → AllDigits 10 digits → is_marked digits ≡ false
+pub no_mark : (digits : List ℕ) → AllDigits 10 digits → is_marked digits ≡ false
 no_mark [] all = refl
 no_mark (x ∷ []) all = refl
 no_mark (x ∷ y ∷ zs) all =

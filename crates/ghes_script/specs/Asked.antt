@@ -1,5 +1,5 @@
 -- What the words of a line ask for, form by form: the words from left to right (own choice).
-use Rattle.std.specs.Prelude.{◌≡◌, refl, ℕ, ◌^◌, ◌==◌, ◌&&◌, ◌||◌, not, nat_le, if◌then◌else◌, Bool, true, false, List, [], ◌∷◌, length, bytes_eq, codes, Option, Some, None, Result, Ok, Err}
+use Rattle.std.specs.Prelude.{◌≡◌, refl, ℕ, ◌^◌, ◌==◌, ◌&&◌, ◌||◌, not, nat_le, if◌then◌else◌, Bool, true, false, List, [], ◌∷◌, length, bytes_eq, codes, Result, Ok, Err}
 use Rattle.byteorder.specs.Endian.{little_number}
 use Rattle.hex.specs.Hex.{decode_of}
 use Rattle.apei_einj.specs.Request.{is_error_type}
@@ -10,7 +10,7 @@ use Rattle.ghes_script.specs.Number.{number, number_within, number_below, or_kin
 use Rattle.ghes_script.specs.Setup.{Setup, source_of, acked_source_of}
 use Rattle.ghes_script.specs.Words.{none_of, one_of, two_of}
 use Rattle.ghes_script.specs.declared.error.ScriptKind.{ScriptKind}
-use Rattle.ghes_script.specs.declared.error.ScriptKind.TheVariants.{Command, Words, Number, Hex, Range, Source, NoInjection}
+use Rattle.ghes_script.specs.declared.error.ScriptKind.TheVariants.{Command, Words, Hex, Range, Source, NoInjection}
 use Rattle.ghes_script.specs.declared.line.What.{What}
 use Rattle.ghes_script.specs.declared.line.What.TheVariants as asks
 use Rattle.ghes_script.specs.declared.name.Name.{Name}

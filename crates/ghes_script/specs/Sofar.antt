@@ -1,5 +1,5 @@
 -- The order of the lines of a script (own choice).
-use Rattle.std.specs.Prelude.{ℕ, nat_le, Bool, true, false, not, ◌&&◌}
+use Rattle.std.specs.Prelude.{nat_le, Bool, true, false, not, ◌&&◌}
 use Rattle.ghes_script.specs.declared.line.What.{What}
 use Rattle.ghes_script.specs.declared.line.What.TheVariants.{Slots, Contexts, Serve, AckCell, Available, Busy, Status, Route, Clock, Raise, Inject, Nmi, Work, Run, Peek, Fail}
 use Rattle.ghes_script.specs.declared.sofar.Sofar.{Sofar}

@@ -1,10 +1,13 @@
 //! What one line of a script answers.
-ghost use Rattle.std.specs.Prelude.{◌≡◌, ◌&&◌, IfOk};
+ghost use Rattle.std.specs.Prelude.{◌≡◌, ◌≤◌, ◌&&◌, length, IfOk, IfSome};
 ghost use Rattle.std.specs.List.{list_all};
 ghost use Rattle.ghes_script.specs.Answer.{is_printable, is_comment, in_order, words_answer, answer_of};
 ghost use Rattle.ghes_script.specs.Words.{words_of};
+ghost use Rattle.ghes_script.specs.declared.answer.Answer.TheVariants.{Asks};
+ghost use Rattle.ghes_script.specs.declared.line.What.TheVariants.{Nmi};
 
 use crate::args::asked;
+use crate::number::numeral;
 use crate::setup::Setup;
 use crate::sofar::Sofar;
 use crate::words::next_word;
@@ -94,6 +97,18 @@ fn words_answer(
     Ok(in_order(sofar, asked))
 }
 
+// The source that a line calls for which is `nmi`, one space and decimal digits: most lines are of this form, and their bytes need
+// not be looked at again.
+fn called(setup: &Setup<'_>, text: &[u8]) -> Option<usize>
+    requires { length text.now ≤ 132000 }
+    ensures { IfSome result (λ at. (sofar : Sofar) → answer_of setup.now sofar text.now ≡ Asks (Nmi at)) }
+{
+    let word = text.strip_prefix(b"nmi ")?;
+    let id = numeral(10, word)?;
+    let found = setup.found(id)?;
+    Some(found.at)
+}
+
 /// What a line answers, without its line feed, behind those so far.
 #[tactic(auto, unfolding(crate::specs::Answer::answer_of))]
 pub(crate) fn answer_to(
@@ -106,6 +121,9 @@ pub(crate) fn answer_to(
 {
     if text.len() > LINE_LIMIT {
         return Ok(Answer::Bad(ScriptKind::TooLong));
+    }
+    if let Some(source) = called(setup, text) {
+        return Ok(Answer::Asks(What::Nmi(source)));
     }
     if !are_printable(text) {
         return Ok(Answer::Bad(ScriptKind::Unprintable));

@@ -25,8 +25,8 @@ fn with_digit(value: u64, base: u64, digit: u64) -> Option<u64>
     value.checked_mul(base)?.checked_add(digit)
 }
 
-// The number that digits of a base spell.
-fn numeral(base: u64, digits: &[u8]) -> Option<u64>
+/// The number that digits of a base spell.
+pub(crate) fn numeral(base: u64, digits: &[u8]) -> Option<u64>
     requires { 0 < base }
     ensures { result ≡ numeral base digits.now }
 {

@@ -72,8 +72,8 @@ impl<'a> Setup<'a> {
         })
     }
 
-    // The source with this id.
-    fn found(&self, id: u64) -> Option<Found>
+    /// The source with this id.
+    pub fn found(&self, id: u64) -> Option<Found>
         ensures { result ≡ found_of self.now.names id }
     {
         self.by_id.get(&id).copied()
