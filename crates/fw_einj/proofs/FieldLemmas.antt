@@ -1,5 +1,5 @@
 -- Cells that are the same one by one, and a field that was set.
-use Rattle.std.proofs.Common.{◌≡◌, ◌%◌, ◌^◌, ℕ, Option, Some, None, refl, ap, ap₂, ◌∙◌, arith}
+use Rattle.std.proofs.Common.{◌≡◌, ◌%◌, ◌^◌, ℕ, Option, Some, None, refl, ap, ◌∙◌, arith}
 use Rattle.std.specs.Prelude.{IsTrue, is_none}
 use Rattle.std.proofs.Math.Path.{fun_ext}
 use Rattle.apei_base.specs.Bus.{Cells, Reach, value_at}

@@ -1,5 +1,5 @@
 -- The GUIDs of the classes as they lie in a block.
-use Rattle.std.proofs.Common.{◌≡◌, List, [], ◌∷◌, refl}
+use Rattle.std.proofs.Common.{◌≡◌, [], ◌∷◌, refl}
 use Rattle.uuid.proofs.OnLiterals.{uuid_on_literals}
 use Rattle.cper_sections.specs.Section.{guid_of}
 use Rattle.fw_einj.specs.Class.{section_guid, guid_bytes}

@@ -1,4 +1,6 @@
 mod AddedLemmas
+mod AnchorsLemmas
+mod BlockLemmas
 mod FieldLemmas
 mod GuidLemmas
 mod MachineLemmas

@@ -1,9 +1,9 @@
 -- What each part of an access leaves in the machine.
-use Rattle.std.proofs.Common.{◌≡◌, ◌<◌, ◌≤◌, ◌+◌, ◌-◌, ◌%◌, ◌^◌, ℕ, Bool, true, false, cond, eqb, Option, Some, None, refl, sym, ap, ap₂, ◌∙◌, arith}
+use Rattle.std.proofs.Common.{◌≡◌, ◌<◌, ◌≤◌, ◌-◌, ◌%◌, ◌^◌, true, false, cond, eqb, Some, None, refl, sym, ap, ◌∙◌, arith}
 use Rattle.std.proofs.lemmas.Bool.Decides.{nat_tests}
 use Rattle.apei_base.specs.Bus.{Cells, Reach}
 use Rattle.fw_einj.specs.Field.{field_set}
-use Rattle.fw_einj.specs.Machine.{Machine, idle_value, counted_down, trigger_reach, triggered_by, written, made_of, acted_on, acted, type_in, command_status}
+use Rattle.fw_einj.specs.Machine.{Machine, idle_value, counted_down, trigger_reach, triggered_by, written, made_of}
 use Rattle.fw_einj.specs.declared.injection.Injection.{Injection}
 use Rattle.fw_einj.specs.declared.port.Made.{Made}
 

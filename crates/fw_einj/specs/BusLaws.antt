@@ -1,5 +1,5 @@
 -- What an access of the machine answers, and which cells it leaves unmapped.
-use Rattle.std.proofs.Common.{◌≡◌, ◌==◌, ◌-◌, ◌/◌, ℕ, Bool, true, false, cond, if◌then◌else◌, List, Option, Some, None, ap, refl, ◌∙◌}
+use Rattle.std.proofs.Common.{◌≡◌, ◌==◌, ◌-◌, ◌/◌, ℕ, Bool, true, false, cond, if◌then◌else◌, List, Option, Some, None, ap, ◌∙◌}
 use Rattle.std.specs.Option.{option_map}
 use Rattle.apei_base.specs.Bus.{Cells, Reach, Access, Reads, Writes, Copies, Answers, KeepsUnmapped, same_space, value_at}
 use Rattle.apei_base.specs.declared.region.Space.{Space}
@@ -7,7 +7,6 @@ use Rattle.apei_base.specs.declared.region.Space.TheVariants.{Memory}
 use Rattle.apei_einj.specs.Action.{entry_reach, with_field}
 use Rattle.byteorder.specs.Endian.{little_bytes}
 use Rattle.fw_cells.specs.Changes.{with_bytes_at, with_value}
-use Rattle.fw_cells.specs.Mapping.{is_in_run}
 use Rattle.fw_einj.specs.Field.{field_set}
 use Rattle.fw_einj.specs.Machine.{Machine, IsMachineStep, busy_begun, status_told, table_written, table_told, armed_with, disarmed, decided, acted_on, acted, after_command, is_begun, triggered_by, after_trigger, is_triggered, written, after_write, table_bytes, trigger_reach, counted_down, after_read}
 use Rattle.fw_einj.specs.declared.injection.Injection.{Injection}

@@ -4,4 +4,5 @@ pub mod BusLaws
 pub mod Class
 pub mod Field
 pub mod Machine
+pub mod New
 pub mod Section

@@ -1,5 +1,5 @@
 -- The machine that injects: what it holds, and what an access leaves (own choice).
-use Rattle.std.specs.Prelude.{◌≡◌, ℕ, ◌+◌, ◌-◌, ◌^◌, Bool, not, ◌&&◌, ◌||◌, ◌==◌, nat_lt, bit_and, if◌then◌else◌, List, [], ◌∷◌, ◌++◌, length, replicate, slice_index, Option, Some, None}
+use Rattle.std.specs.Prelude.{◌≡◌, ℕ, ◌+◌, ◌-◌, ◌^◌, Bool, not, ◌&&◌, ◌||◌, ◌==◌, nat_lt, bit_and, if◌then◌else◌, List, [], ◌∷◌, ◌++◌, length, slice_index, Option, Some, None}
 use Rattle.byteorder.specs.Endian.{little_bytes}
 use Rattle.apei_base.specs.Bus.{Cells, Reach, Access, Reads, Writes, Copies, value_at, bytes_at}
 use Rattle.apei_base.specs.declared.region.Space.TheVariants.{Memory}

@@ -1,7 +1,7 @@
 -- The section of an injected block: its fields, one behind the other, and zeros in between (UEFI 2.10, appendix N.2).
 use Rattle.std.specs.Prelude.{ℕ, ◌+◌, ◌/◌, ◌%◌, ◌^◌, Bool, not, ◌==◌, bit_and, if◌then◌else◌, List, [], ◌∷◌, ◌++◌, replicate}
 use Rattle.byteorder.specs.Endian.{little_bytes}
-use Rattle.fw_einj.specs.Class.{class_of, is_correctable}
+use Rattle.fw_einj.specs.Class.{is_correctable}
 use Rattle.fw_einj.specs.declared.class.Class.{Class}
 use Rattle.fw_einj.specs.declared.class.Class.TheVariants as classes
 use Rattle.fw_einj.specs.declared.injection.Injection.{Injection}

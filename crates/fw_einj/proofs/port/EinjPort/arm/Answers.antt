@@ -1,5 +1,5 @@
 use Rattle.std.proofs.Common.{ap, Some}
-use Rattle.fw_einj.specs.Machine.{Machine, machine_of, armed_with}
+use Rattle.fw_einj.specs.Machine.{machine_of, armed_with}
 use Rattle.fw_einj.specs.declared.injection.Injection.{Injection}
 use Rattle.fw_einj.proofs.port.EinjPort.arm.Goals as goal
 

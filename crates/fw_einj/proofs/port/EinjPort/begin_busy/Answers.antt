@@ -1,8 +1,7 @@
 use Rattle.std.proofs.Common.{ap, ◌∙◌}
 use Rattle.apei_base.specs.Bus.{Cells}
-use Rattle.fw_cells.specs.Runs.{cells_of}
 use Rattle.fw_einj.specs.Field.{field_set}
-use Rattle.fw_einj.specs.Machine.{Machine, machine_of, busy_begun}
+use Rattle.fw_einj.specs.Machine.{machine_of, busy_begun}
 use Rattle.fw_einj.proofs.port.EinjPort.begin_busy.Goals as goal
 
 pub returns : goal.returns
