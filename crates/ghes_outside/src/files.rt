@@ -64,11 +64,16 @@ pub trait Files {
         ensures within { OnOk result (vec_len into.new ≤ limit) }
         ensures err { OnErr result (into.new.items ≡ []) }
 
-        ensures failed { IsErrOf result LoadError.Failed → Rose (seen self.old).faults (seen self.new).faults }
-        ensures too_long { IsErrOf result LoadError.TooLong → IsLonger ((seen self.old).contents name.now) limit }
-        ensures unfailed { result ≢ Err LoadError.Failed → (seen self.new).faults ≡ (seen self.old).faults }
-        ensures names { (seen self.new).failed ≡ names_after result name.now (seen self.old).failed }
+        ensures failed { IsErrOf result LoadError.Failed
+            → Rose (seen self.old).faults (seen self.new).faults }
+        ensures too_long { IsErrOf result LoadError.TooLong
+            → IsLonger ((seen self.old).contents name.now) limit }
+        ensures unfailed { result ≢ Err LoadError.Failed
+            → (seen self.new).faults ≡ (seen self.old).faults }
+        ensures names { (seen self.new).failed
+            ≡ names_after result name.now (seen self.old).failed }
 
-        ensures contents { (other : List ℕ) → (seen self.new).contents other ≡ (seen self.old).contents other }
+        ensures contents { (other : List ℕ)
+            → (seen self.new).contents other ≡ (seen self.old).contents other }
         ensures grows { (seen self.old).faults ≤ (seen self.new).faults };
 }

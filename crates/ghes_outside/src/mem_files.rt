@@ -61,16 +61,20 @@ impl Files for MemFiles {
         ensures within { OnOk result (vec_len into.new ≤ limit) }
         ensures err { OnErr result (into.new.items ≡ []) }
 
-        ensures failed { IsErrOf result LoadError.Failed → Rose (faults_of self.old) (faults_of self.new) }
-        ensures too_long { IsErrOf result LoadError.TooLong → IsLonger (contents_of self.old name.now) limit }
+        ensures failed { IsErrOf result LoadError.Failed → Rose (faults_of self.old)
+            (faults_of self.new) }
+        ensures too_long { IsErrOf result LoadError.TooLong → IsLonger
+            (contents_of self.old name.now) limit }
         ensures unfailed { result ≢ Err LoadError.Failed → faults_of self.new ≡ faults_of self.old }
         ensures names { failed_of self.new ≡ names_after result name.now (failed_of self.old) }
 
-        ensures contents { (other : List ℕ) → contents_of self.new other ≡ contents_of self.old other }
+        ensures contents { (other : List ℕ) → contents_of self.new other
+            ≡ contents_of self.old other }
         ensures grows { faults_of self.old ≤ faults_of self.new }
 
         // Files in memory say more: what the answer is, and what it changes.
-        ensures answer { result ≢ Err LoadError.OutOfMemory → result ≡ load_answer self.old name.now limit }
+        ensures answer { result ≢ Err LoadError.OutOfMemory → result
+            ≡ load_answer self.old name.now limit }
         ensures count { faults_of self.new ≡ faults_after result (faults_of self.old) }
         ensures counted { calls_of self.new ≡ with_call (calls_of self.old) }
     {
@@ -88,7 +92,8 @@ impl Files for MemFiles {
 // Answers `Failed` once the name is noted and the fault counted, and `OutOfMemory` where there is no memory to note it.
 fn note_failure(alloc: Global, failed: &mut Vec<String>, faults: &mut u64, name: &str) -> LoadError
     ensures kind { result ≢ LoadError.TooLong }
-    ensures names { names_in failed.new.items ≡ names_with result name.now (names_in failed.old.items) }
+    ensures names { names_in failed.new.items ≡ names_with result name.now
+        (names_in failed.old.items) }
     ensures count { faults.new ≡ faults_with result faults.old }
     ensures grows { faults.old ≤ faults.new }
 {
@@ -102,7 +107,8 @@ fn note_failure(alloc: Global, failed: &mut Vec<String>, faults: &mut u64, name:
 }
 
 fn push_text(alloc: Global, texts: &mut Vec<String>, text: &str) -> Result<(), AllocError>
-    ensures ok { OnOk result (names_in texts.new.items ≡ names_in texts.old.items ++ text.now ∷ []) }
+    ensures ok { OnOk result (names_in texts.new.items ≡ names_in texts.old.items
+        ++ text.now ∷ []) }
     ensures err { OnErr result (texts.new.items ≡ texts.old.items) }
 {
     texts.push(String::from_str(alloc, text)?)?;
@@ -113,7 +119,8 @@ fn copy_within(contents: &[u8], into: &mut Vec<u8>, limit: usize) -> Result<(), 
     requires { into.old.items ≡ [] }
     ensures ok { OnOk result (into.new.items ≡ contents.now) }
     ensures err { OnErr result (into.new.items ≡ []) }
-    ensures answer { result ≢ Err LoadError.OutOfMemory → result ≡ told_answer (Some contents.now) limit }
+    ensures answer { result ≢ Err LoadError.OutOfMemory → result
+        ≡ told_answer (Some contents.now) limit }
     ensures no_fault { result ≢ Err LoadError.Failed }
 {
     if contents.len() > limit {

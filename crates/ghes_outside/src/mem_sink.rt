@@ -62,8 +62,10 @@ impl Sink for MemSink {
     ///
     /// It takes no memory.
     fn put(&mut self, bytes: &[u8]) -> Result<(), PutFailed>
-        ensures ok { OnOk result (Appends (told_by self.old).written (told_by self.new).written bytes.now) }
-        ensures err { OnErr result (AppendsFront (told_by self.old).written (told_by self.new).written bytes.now) }
+        ensures ok { OnOk result (Appends (told_by self.old).written
+            (told_by self.new).written bytes.now) }
+        ensures err { OnErr result (AppendsFront (told_by self.old).written
+            (told_by self.new).written bytes.now) }
         ensures cause { OnErr result (Rose self.old.faulted self.new.faulted) }
         ensures grows { self.old.faulted ≤ self.new.faulted }
 

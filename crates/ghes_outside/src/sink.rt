@@ -13,8 +13,10 @@ pub trait Sink {
 
     /// Puts the bytes behind those before. After a failure a front of them may have been taken.
     fn put(&mut self, bytes: &[u8]) -> Result<(), PutFailed>
-        ensures ok { OnOk result (Appends (seen self.old).written (seen self.new).written bytes.now) }
-        ensures err { OnErr result (AppendsFront (seen self.old).written (seen self.new).written bytes.now) }
+        ensures ok { OnOk result (Appends (seen self.old).written
+            (seen self.new).written bytes.now) }
+        ensures err { OnErr result (AppendsFront (seen self.old).written
+            (seen self.new).written bytes.now) }
         ensures cause { OnErr result (Rose (seen self.old).faults (seen self.new).faults) }
         ensures grows { (seen self.old).faults ≤ (seen self.new).faults };
 }

@@ -114,7 +114,8 @@ pub(crate) fn check<F: Files>(
     hest: &str,
     einj: &str,
 ) -> Result<Done, Refusal>
-    ensures { Does (F.seen files.old) (F.seen files.new) (Check hest.now einj.now) (done_of result) }
+    ensures { Does (F.seen files.old)
+        (F.seen files.new) (Check hest.now einj.now) (done_of result) }
 {
     let found = match load_hest(alloc, files, hest) {
         Ok(found) => found,

@@ -35,7 +35,8 @@ fn malformed_line(alloc: Global, reason: Malformed) -> Result<String, AllocError
 fn whole_text(alloc: Global, header: &Header, bytes: &[u8]) -> Result<Vec<u8>, AllocError>
     requires block { Judges bytes.now largest_block None }
     requires front { header.now ≡ header_of bytes.now }
-    ensures { IfOk result (λ text. text.items ≡ block_line (block_length (header_of bytes.now)) ++ block_text bytes.now) }
+    ensures { IfOk result (λ text. text.items ≡ block_line (block_length (header_of bytes.now))
+        ++ block_text bytes.now) }
 {
     let mut text = block_line(alloc, header.block_length())?.into_bytes();
     block_text(alloc, &mut text, bytes)?;

@@ -117,7 +117,8 @@ pub(crate) fn load_script<F: Files>(
     name: &str,
     ghes: &Ghes,
 ) -> Result<Vec<Line>, Refusal>
-    ensures { LoadsScript (F.seen files.old) (F.seen files.new) name.now ghes.now (lines_of result) }
+    ensures { LoadsScript (F.seen files.old)
+        (F.seen files.new) name.now ghes.now (lines_of result) }
 {
     match load_file(alloc, files, InputFile::Script, name) {
         Ok(bytes) => read_lines(alloc, ghes.id, &bytes),

@@ -53,9 +53,11 @@ fn run_arguments<F: Files, K: Sink>(
     files: &mut F,
     out: &mut K,
 ) -> RunEnd
-    ensures ok { IfOk all (λ a. EndsBy (map string_bytes (drop 1 a.items)) (outside (F.seen files.old) (K.seen out.old))
+    ensures ok { IfOk all (λ a. EndsBy (map string_bytes (drop 1 a.items))
+        (outside (F.seen files.old) (K.seen out.old))
         (outside (F.seen files.new) (K.seen out.new)) result) }
-    ensures err { IfErr all (λ refusal. EndsBefore refusal (outside (F.seen files.old) (K.seen out.old))
+    ensures err { IfErr all (λ refusal. EndsBefore refusal
+        (outside (F.seen files.old) (K.seen out.old))
         (outside (F.seen files.new) (K.seen out.new)) result) }
 {
     match all {
@@ -76,11 +78,16 @@ pub fn ghes_main<F: Files, K: Sink>(
     // The run is that of `ghes_run` on the words behind the name, and it exits with the status of that run, or memory is
     // wanting for the words.
     ensures words { IfOk args (λ all. ExitsBy (map string_bytes (drop 1 (into_iter_items all)))
-        (outside (F.seen files.old) (K.seen out.old)) (outside (F.seen files.new) (K.seen out.new)) (exit_status result)) }
-    ensures unread { IfErr args (λ error. error_kind error ≢ ErrorKind.OutOfMemory → ExitsBefore refusals.Usage
-        (outside (F.seen files.old) (K.seen out.old)) (outside (F.seen files.new) (K.seen out.new)) (exit_status result)) }
-    ensures no_memory { IfErr args (λ error. error_kind error ≡ ErrorKind.OutOfMemory → ExitsBefore refusals.OutOfMemory
-        (outside (F.seen files.old) (K.seen out.old)) (outside (F.seen files.new) (K.seen out.new)) (exit_status result)) }
+        (outside (F.seen files.old) (K.seen out.old))
+        (outside (F.seen files.new) (K.seen out.new)) (exit_status result)) }
+    ensures unread { IfErr args
+        (λ error. error_kind error ≢ ErrorKind.OutOfMemory → ExitsBefore refusals.Usage
+        (outside (F.seen files.old) (K.seen out.old))
+        (outside (F.seen files.new) (K.seen out.new)) (exit_status result)) }
+    ensures no_memory { IfErr args
+        (λ error. error_kind error ≡ ErrorKind.OutOfMemory → ExitsBefore refusals.OutOfMemory
+        (outside (F.seen files.old) (K.seen out.old))
+        (outside (F.seen files.new) (K.seen out.new)) (exit_status result)) }
 {
     let all = arguments(alloc, args);
     ExitCode::from(run_arguments(alloc, all, files, out).status)

@@ -13,7 +13,8 @@ const PIECE: usize = 4096;
 // Puts a text in pieces.
 fn put_all<K: Sink>(out: &mut K, text: &[u8]) -> Result<(), PutFailed>
     ensures ok { OnOk result (Appends (K.seen out.old).written (K.seen out.new).written text.now) }
-    ensures err { OnErr result (AppendsFront (K.seen out.old).written (K.seen out.new).written text.now) }
+    ensures err { OnErr result (AppendsFront (K.seen out.old).written
+        (K.seen out.new).written text.now) }
     ensures cause { OnErr result (Rose (K.seen out.old).faults (K.seen out.new).faults) }
 {
     let mut rest = text;
@@ -32,7 +33,8 @@ pub(crate) fn end_with<K: Sink>(
     status: u8,
     ledger: Option<Ledger>,
 ) -> RunEnd
-    ensures { WasPut (K.seen out.old) (K.seen out.new) text.now (record { status = status; ledger = ledger }) result }
+    ensures { WasPut (K.seen out.old) (K.seen out.new) text.now
+        (record { status = status; ledger = ledger }) result }
 {
     match put_all(out, text) {
         Ok(()) => RunEnd { status, ledger },

@@ -57,7 +57,8 @@ pub(crate) fn replay<F: Files>(
     hest: &str,
     script: &str,
 ) -> Result<Done, Refusal>
-    ensures { Does (F.seen files.old) (F.seen files.new) (Replay hest.now script.now) (done_of result) }
+    ensures { Does (F.seen files.old)
+        (F.seen files.new) (Replay hest.now script.now) (done_of result) }
 {
     let ghes = match load_source(alloc, files, hest) {
         Ok(ghes) => ghes,

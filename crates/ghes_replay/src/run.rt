@@ -66,7 +66,8 @@ fn run_task<F: Files, K: Sink>(alloc: Global, task: Task<'_>, files: &mut F, out
 fn run<F: Files, K: Sink>(alloc: Global, words: &[String], files: &mut F, out: &mut K) -> RunEnd
     ensures ends { EndsBy (map string_bytes words.now) (outside (F.seen files.old) (K.seen out.old))
         (outside (F.seen files.new) (K.seen out.new)) result }
-    ensures loads { Loads (IsFileWord (map string_bytes words.now)) (F.seen files.old) (F.seen files.new) }
+    ensures loads { Loads (IsFileWord (map string_bytes words.now))
+        (F.seen files.old) (F.seen files.new) }
 {
     match task_of(words) {
         Some(task) => run_task(alloc, task, files, out),
@@ -98,21 +99,28 @@ pub fn ghes_run<F: Files, K: Sink>(
     ensures statuses { IsTrue (is_status result.status) }
     ensures put_failed { result.status ≡ 6 → Rose (K.seen out.old).faults (K.seen out.new).faults }
     // The failed names are words of this run that stand for files, and no contents change.
-    ensures loads { Loads (IsFileWord (map string_bytes words.now)) (F.seen files.old) (F.seen files.new) }
+    ensures loads { Loads (IsFileWord (map string_bytes words.now))
+        (F.seen files.old) (F.seen files.new) }
     // Where a load failed, the run is refused for it, unless the output fails or memory runs out.
-    ensures failed { (NoneFailed (F.seen files.old) (F.seen files.new) → ⊥) → IsUnlessFault result.status 5 }
+    ensures failed { (NoneFailed (F.seen files.old) (F.seen files.new) → ⊥)
+        → IsUnlessFault result.status 5 }
     // Words that ask for nothing, a refused table or injection table, a table that is not served so far and a refused
     // script get their status, unless the output fails or memory runs out.
     ensures bad_words { AskNothing (map string_bytes words.now) → IsUnlessFault result.status 2 }
-    ensures bad_table { HasBadTable (map string_bytes words.now) (F.seen files.old) (F.seen files.new)
+    ensures bad_table { HasBadTable (map string_bytes words.now)
+        (F.seen files.old) (F.seen files.new)
         → IsUnlessFault result.status 3 }
-    ensures not_built { HasUnserved (map string_bytes words.now) (F.seen files.old) (F.seen files.new)
+    ensures not_built { HasUnserved (map string_bytes words.now)
+        (F.seen files.old) (F.seen files.new)
         → IsUnlessFault result.status 3 }
-    ensures bad_script { HasBadScript (map string_bytes words.now) (F.seen files.old) (F.seen files.new)
+    ensures bad_script { HasBadScript (map string_bytes words.now)
+        (F.seen files.old) (F.seen files.new)
         → IsUnlessFault result.status 4 }
     // What is accepted is done, unless memory runs out.
-    ensures complete { IsAccepted (map string_bytes words.now) (outside (F.seen files.old) (K.seen out.old))
-        (outside (F.seen files.new) (K.seen out.new)) → (result.status ≡ done_status result.ledger) ⊎ (result.status ≡ 7) }
+    ensures complete { IsAccepted (map string_bytes words.now)
+        (outside (F.seen files.old) (K.seen out.old))
+        (outside (F.seen files.new) (K.seen out.new))
+        → (result.status ≡ done_status result.ledger) ⊎ (result.status ≡ 7) }
 {
     run(alloc, words, files, out)
 }
@@ -131,17 +139,23 @@ pub fn check_run<F: Files, K: Sink>(
     out: &mut K,
 ) -> u8
     // Each clause is that of `ghes_run` with the words `check HEST EINJ`.
-    ensures ends { EndsBy (codes "check" ∷ hest.now ∷ einj.now ∷ []) (outside (F.seen files.old) (K.seen out.old))
+    ensures ends { EndsBy (codes "check" ∷ hest.now ∷ einj.now ∷ [])
+        (outside (F.seen files.old) (K.seen out.old))
         (outside (F.seen files.new) (K.seen out.new)) (bare_end result) }
     ensures done { result ≡ 0 → PutsText (codes "check" ∷ hest.now ∷ einj.now ∷ [])
-        (outside (F.seen files.old) (K.seen out.old)) (outside (F.seen files.new) (K.seen out.new)) None }
+        (outside (F.seen files.old) (K.seen out.old))
+        (outside (F.seen files.new) (K.seen out.new)) None }
     ensures statuses { IsTrue (is_check_status result) }
     ensures put_failed { result ≡ 6 → Rose (K.seen out.old).faults (K.seen out.new).faults }
-    ensures loads { Loads (IsFileWord (codes "check" ∷ hest.now ∷ einj.now ∷ [])) (F.seen files.old) (F.seen files.new) }
-    ensures failed { (NoneFailed (F.seen files.old) (F.seen files.new) → ⊥) → IsUnlessFault result 5 }
-    ensures bad_table { HasBadTable (codes "check" ∷ hest.now ∷ einj.now ∷ []) (F.seen files.old) (F.seen files.new)
+    ensures loads { Loads (IsFileWord (codes "check" ∷ hest.now ∷ einj.now ∷ []))
+        (F.seen files.old) (F.seen files.new) }
+    ensures failed { (NoneFailed (F.seen files.old) (F.seen files.new) → ⊥)
+        → IsUnlessFault result 5 }
+    ensures bad_table { HasBadTable (codes "check" ∷ hest.now ∷ einj.now ∷ [])
+        (F.seen files.old) (F.seen files.new)
         → IsUnlessFault result 3 }
-    ensures complete { IsAccepted (codes "check" ∷ hest.now ∷ einj.now ∷ []) (outside (F.seen files.old) (K.seen out.old))
+    ensures complete { IsAccepted (codes "check" ∷ hest.now ∷ einj.now ∷ [])
+        (outside (F.seen files.old) (K.seen out.old))
         (outside (F.seen files.new) (K.seen out.new)) → (result ≡ 0) ⊎ (result ≡ 7) }
 {
     run_task(alloc, Task::Check { hest, einj }, files, out).status
@@ -154,15 +168,20 @@ pub fn check_run<F: Files, K: Sink>(
 /// block are no refusal: the reason is printed. It neither waits nor starts threads, and it returns.
 pub fn decode_run<F: Files, K: Sink>(alloc: Global, block: &str, files: &mut F, out: &mut K) -> u8
     // Each clause is that of `ghes_run` with the words `decode BLOCK`.
-    ensures ends { EndsBy (codes "decode" ∷ block.now ∷ []) (outside (F.seen files.old) (K.seen out.old))
+    ensures ends { EndsBy (codes "decode" ∷ block.now ∷ [])
+        (outside (F.seen files.old) (K.seen out.old))
         (outside (F.seen files.new) (K.seen out.new)) (bare_end result) }
     ensures done { result ≡ 0 → PutsText (codes "decode" ∷ block.now ∷ [])
-        (outside (F.seen files.old) (K.seen out.old)) (outside (F.seen files.new) (K.seen out.new)) None }
+        (outside (F.seen files.old) (K.seen out.old))
+        (outside (F.seen files.new) (K.seen out.new)) None }
     ensures statuses { IsTrue (is_decode_status result) }
     ensures put_failed { result ≡ 6 → Rose (K.seen out.old).faults (K.seen out.new).faults }
-    ensures loads { Loads (IsFileWord (codes "decode" ∷ block.now ∷ [])) (F.seen files.old) (F.seen files.new) }
-    ensures failed { (NoneFailed (F.seen files.old) (F.seen files.new) → ⊥) → IsUnlessFault result 5 }
-    ensures complete { IsAccepted (codes "decode" ∷ block.now ∷ []) (outside (F.seen files.old) (K.seen out.old))
+    ensures loads { Loads (IsFileWord (codes "decode" ∷ block.now ∷ []))
+        (F.seen files.old) (F.seen files.new) }
+    ensures failed { (NoneFailed (F.seen files.old) (F.seen files.new) → ⊥)
+        → IsUnlessFault result 5 }
+    ensures complete { IsAccepted (codes "decode" ∷ block.now ∷ [])
+        (outside (F.seen files.old) (K.seen out.old))
         (outside (F.seen files.new) (K.seen out.new)) → (result ≡ 0) ⊎ (result ≡ 7) }
 {
     run_task(alloc, Task::Decode { block }, files, out).status
