@@ -6,12 +6,16 @@
 mod areas;
 mod error;
 mod map;
+mod mapped;
 mod overlap;
 mod place;
 mod registers;
 mod run;
 mod taken;
+#[cfg(test)]
+mod tests;
 
 pub use error::{FwError, Owner};
 pub use map::{Map, Trigger};
+pub use registers::enabled_sources;
 pub use run::{Register, Run};

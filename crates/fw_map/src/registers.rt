@@ -16,8 +16,8 @@ use std::alloc::{AllocError, Global};
 // The code of the instruction that has no register.
 const NO_OPERATION: u8 = 4;
 
-/// The enabled generic sources, in table order.
-pub(crate) fn enabled_sources(alloc: Global, sources: &[Source]) -> Result<Vec<Ghes>, AllocError>
+/// The enabled generic sources among the sources of a table, in table order.
+pub fn enabled_sources(alloc: Global, sources: &[Source]) -> Result<Vec<Ghes>, AllocError>
     ensures { IfOk result (λ found. found.items ≡ enabled sources.now) }
 {
     let mut found = Vec::new(alloc);
