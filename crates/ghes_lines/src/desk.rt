@@ -1,5 +1,5 @@
 //! What a replay has between two lines beside the memory of its sources.
-ghost use Rattle.std.specs.Prelude.{◌≡◌, ◌≤◌, ◌<◌, map, option_map, length, IfOk, OnOk, Some};
+ghost use Rattle.std.specs.Prelude.{◌≡◌, ◌≤◌, ◌<◌, ◌+◌, ◌==◌, ◌∷◌, ◌++◌, [], not, nat_le, map, option_map, length, IfOk, OnOk, Some};
 ghost use Rattle.ghes_call.specs.Packet.{seen_of};
 ghost use Rattle.ghes_call.specs.Receive.{IsOfSource};
 ghost use Rattle.ghes_nmi.specs.Receive.{receive_seen};
@@ -15,6 +15,9 @@ use ghes_steps::Steps;
 use std::alloc::{AllocError, Global};
 use std::marker::Model;
 use std::sync::ledger;
+
+/// How many blocks a machine may have.
+const MOST: u32 = 65_536;
 
 /// What a replay has between two lines beside the memory of its sources.
 #[derive(Debug, Drop)]
@@ -145,5 +148,42 @@ impl Desk {
         ensures { OnOk result (self.new ≡ marked line self.old) }
     {
         self.ledger.enter_mark(line)
+    }
+
+    /// Whether a fatal block came, behind which no line is executed.
+    pub fn is_stopped(&self) -> bool
+        ensures { result ≡ not (length self.now.ledger.panic == 0) }
+    {
+        !self.ledger.panic().is_empty()
+    }
+
+    /// Whether the lines made as many blocks as a machine may have.
+    pub(crate) fn is_full(&self) -> bool
+        ensures { result ≡ nat_le 65536 self.now.blocks }
+    {
+        MOST <= self.blocks
+    }
+
+    /// Counts a block that a line made.
+    pub(crate) fn count(&mut self)
+        requires { self.old.blocks < 65536 }
+        ensures { self.new ≡ record self.old { blocks = self.old.blocks + 1 } }
+    {
+        self.blocks += 1;
+    }
+
+    /// From here on it is this time, in nanoseconds.
+    pub(crate) fn set_clock(&mut self, time: u64)
+        ensures { self.new ≡ record self.old { clock = time } }
+    {
+        self.clock = time;
+    }
+
+    /// Enters an ack cell that was looked at.
+    pub(crate) fn peek(&mut self, cell: u64) -> Result<(), AllocError>
+        ensures { OnOk result (self.new
+            ≡ record self.old { ledger = record self.old.ledger { peeks = self.old.ledger.peeks ++ cell ∷ [] } }) }
+    {
+        self.ledger.enter_peek(cell)
     }
 }

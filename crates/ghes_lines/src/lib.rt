@@ -4,12 +4,15 @@
 
 mod calling;
 mod desk;
+mod error;
 mod finding;
+mod lines;
 mod machine;
 mod pending;
 mod port;
 
 pub use desk::Desk;
+pub use error::Stop;
 pub use machine::{Machine, Source};
 pub use pending::Pending;
 pub use port::Port;

@@ -1,0 +1,60 @@
+//! What each line does.
+ghost use Rattle.std.specs.Prelude.{◌≡◌, ◌<◌, ◌≤◌, ◌+◌, ◌-◌, ◌^◌, [], length, slice_get, Some, OnOk};
+ghost use Rattle.apei_base.specs.Firmware.{IsRaised};
+ghost use Rattle.ghes_call.specs.Receive.{IsOfSource};
+ghost use Rattle.ghes_nmi.specs.Receive.{receive_seen};
+ghost use Rattle.ghes_lines.specs.Desk.{IsNmi};
+ghost use Rattle.ghes_lines.specs.Lines.{IsAt};
+ghost use Rattle.ghes_lines.specs.Port.{raised, IsPlanned, ack_cell_of};
+ghost use Rattle.ghes_lines.specs.declared.machine.Source.{Source};
+
+use crate::desk::Desk;
+use crate::machine::Source;
+use crate::port::Port;
+use ghes_steps::Steps;
+use std::alloc::{AllocError, Global};
+use std::sync::ledger;
+
+/// Firmware has a new block for the source at a position.
+pub(crate) fn raise_at<P: Port>(
+    ports: &mut [P],
+    at: usize,
+    block: &[u8],
+) -> Result<(), AllocError>
+    requires within { at < length ports.old }
+    requires raised { IsRaised block.now }
+    requires few { (port : P) → slice_get ports.old at ≡ Some port → length (P.seen port).made + 1 < 2 ^ 32 - 1 }
+    ensures ok { OnOk result (IsAt at ports.old ports.new (λ before after.
+        (P.seen after ≡ raised block.now (P.seen before)) × (P.faults after ≡ P.faults before))) }
+{
+    ports[at].raise(block)
+}
+
+/// The access of this number through the port of the source at a position is to fail.
+pub(crate) fn fail_at<P: Port>(ports: &mut [P], at: usize, number: u64) -> Result<(), AllocError>
+    requires { at < length ports.old }
+    ensures { OnOk result (IsAt at ports.old ports.new (λ before after.
+        IsPlanned (P.seen before) (P.seen after) × (P.faults after ≡ P.faults before))) }
+{
+    ports[at].fail(number)
+}
+
+/// One call on the source at a position.
+pub(crate) fn nmi_at<P: Port, L: ledger::Ledger>(
+    alloc: Global,
+    source: &Source,
+    at: u16,
+    ports: &mut [P],
+    desk: &mut Desk,
+    steps: &mut Steps<L>,
+) -> Result<(), AllocError>
+    requires within { at < length ports.old }
+    requires source { (port : P) → slice_get ports.old at ≡ Some port → IsOfSource (receive_seen source.now.receive) (P.seen port).layout }
+    requires header { 20 ≤ source.now.receive.limit }
+    requires limit { source.now.receive.limit ≤ desk.old.block_len }
+    ensures { OnOk result (IsAt at ports.old ports.new (λ before after.
+        IsNmi (receive_seen source.now.receive) source.now.server at (P.seen before) (P.seen after)
+        (P.faults before) (P.faults after) desk.old desk.new)) }
+{
+    desk.nmi(alloc, source, at, &mut ports[usize::from(at)], steps)
+}
