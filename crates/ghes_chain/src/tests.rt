@@ -6,7 +6,7 @@ ghost use Rattle.ghes_rule.specs.Seen.{AreFirst, at_work, pass_seen};
 
 use crate::{Gathered, Took, begin_push, end_push, gather, give, push, take};
 use ghes_call::Packet;
-use ghes_rule::{Claim, Pass, Shared, Work, try_slot};
+use ghes_rule::{Claim, Pass, Shared, Work, set_panic, stopped, try_slot, work_stopped};
 use ghes_steps::Steps;
 use std::alloc::Global;
 use std::marker::Brand;
@@ -14,14 +14,25 @@ use std::process::Abort;
 use std::sync::ledger::{Blank, Ledger};
 use std::test::Fail;
 
-// The last of the passes at the start.
+// The last of the passes at the start, whose packets have room for so many bytes.
+fn last_with<R: Abort>(rt: &R, shared: &Shared, room: usize, passes: &mut Vec<Pass>) -> Pass
+    requires { AreFirst shared.now room shared.now.slots (length passes.old.items) passes.old.items }
+    ensures rest { AreFirst shared.now room shared.now.slots (length passes.new.items) passes.new.items }
+    ensures count { length passes.old.items ≡ length passes.new.items + 1 }
+    ensures pass { result ≡ pass_seen shared.now (first_pass room shared.now.slots (length passes.new.items)) }
+{
+    let _room = room;
+    passes.pop().expect(rt, "a pass")
+}
+
+// The same with room for 32 bytes.
 fn last<R: Abort>(rt: &R, shared: &Shared, passes: &mut Vec<Pass>) -> Pass
     requires { AreFirst shared.now 32 shared.now.slots (length passes.old.items) passes.old.items }
     ensures rest { AreFirst shared.now 32 shared.now.slots (length passes.new.items) passes.new.items }
     ensures count { length passes.old.items ≡ length passes.new.items + 1 }
     ensures pass { result ≡ pass_seen shared.now (first_pass 32 shared.now.slots (length passes.new.items)) }
 {
-    passes.pop().expect(rt, "a pass")
+    last_with(rt, shared, 32, passes)
 }
 
 // A packet of one byte, its number.
@@ -314,6 +325,114 @@ fn a_chain_that_was_held_comes_out_when_all_passes_are_back(rt: HostRuntime) -> 
     let second = last(&rt, &shared, &mut passes);
     let first = last(&rt, &shared, &mut passes);
     a_held_chain_is_gathered::<HostRuntime, Brand>(
+        &rt,
+        rt.alloc(),
+        Blank::new(1),
+        &shared,
+        work,
+        first,
+        second,
+    )
+}
+
+// The slots, the length of the longest block and the contexts, at each edge of what may be built.
+const SIZES: [(usize, usize, usize); 4] = [
+    (1, 20, 1),
+    (64, 20, 16),
+    (1, 65536, 16),
+    (64, 65536, 1),
+];
+
+// A packet that fills its room, pushed from the last slot, comes out whole.
+fn the_longest_comes_out<R: Abort, L: Ledger>(
+    rt: &R,
+    blank: Blank,
+    shared: &Shared,
+    work: Work,
+    pass: Pass,
+    packet: Packet,
+)
+    requires blank { (blank.name ≡ L.name) × (blank.parts ≡ L.parts) × (0 < blank.parts) }
+    requires work { (work.table ≡ shared.now) × (work.view.held ≡ Bare) }
+    requires pass { (pass.table ≡ shared.now) × (pass.view.stage ≡ Idle) × (pass.view.claims ≡ []) }
+    requires packet { (length packet.bytes.bytes ≡ pass.view.room) × (pass.view.room ≤ packet.bytes.room) }
+    requires slots { 0 < shared.now.slots }
+{
+    let mut steps = Steps::<L>::new(blank);
+    let (mut pass, mut work) = (pass, work);
+    let long = packet.bytes.as_slice().len();
+    let claim = claimed(rt, shared, &mut pass, shared.slots() - 1, &mut steps);
+    let (_pass, _spare) = push(shared, claim, pass, packet, &mut steps);
+    match take(shared, &mut work, &mut steps) {
+        Took::Packet(held) => {
+            assert_eq!(rt; held.packet().bytes.as_slice().len(), long, "all of it");
+            give(shared, held, &mut work, &mut steps);
+        }
+        Took::Empty | Took::Again => panic!(rt; "the packet is pending"),
+    }
+}
+
+#[test]
+fn each_size_that_may_be_built_is_built(rt: HostRuntime) -> Result<(), Fail> {
+    for (slots, room, contexts) in SIZES {
+        assert!(rt; 0 < slots && slots <= 64 && 20 <= room && room <= 65536);
+        assert!(rt; 0 < contexts && contexts <= 16);
+        let (shared, work, mut passes) = Shared::build(rt.alloc(), slots, room, contexts)?;
+        assert_eq!(rt; (shared.slots(), passes.len()), (slots, contexts));
+        let pass = last_with(&rt, &shared, room, &mut passes);
+        let mut packet = Packet::empty(rt.alloc(), room)?;
+        packet.bytes.set_len(room);
+        the_longest_comes_out::<HostRuntime, Brand>(
+            &rt,
+            Blank::new(1),
+            &shared,
+            work,
+            pass,
+            packet,
+        );
+    }
+    Ok(())
+}
+
+// Two passes: where one has a fatal block, the other and the decoder find the panic word set.
+fn a_fatal_block_is_seen<R: Abort, L: Ledger>(
+    rt: &R,
+    alloc: Global,
+    blank: Blank,
+    shared: &Shared,
+    work: Work,
+    first: Pass,
+    second: Pass,
+) -> Result<(), Fail>
+    requires blank { (blank.name ≡ L.name) × (blank.parts ≡ L.parts) × (0 < blank.parts) }
+    requires slots { shared.now.slots ≡ 2 }
+    requires work { work ≡ record { table = shared.now; view = at_work 32 2 2 } }
+    requires first { first ≡ pass_seen shared.now (first_pass 32 2 0) }
+    requires second { second ≡ pass_seen shared.now (first_pass 32 2 1) }
+{
+    let mut steps = Steps::<L>::new(blank);
+    let mut work = work;
+    let (first, early) = stopped(shared, first, &mut steps);
+    let early_too = work_stopped(shared, &mut work, &mut steps);
+    let first = set_panic(shared, first, &packet(rt, alloc, 1), &mut steps);
+    let (second, set) = stopped(shared, second, &mut steps);
+    let set_too = work_stopped(shared, &mut work, &mut steps);
+    assert_eq!(rt; (early, early_too), (false, false), "clear at the start");
+    assert_eq!(rt; (set, set_too), (true, true), "set by the other pass");
+    let mut gathered = two_gathered(alloc, shared, work, first, second)?;
+    assert!(rt;
+        gathered.stopped(shared, &mut steps),
+        "set when all are back"
+    );
+    Ok(())
+}
+
+#[test]
+fn a_fatal_block_of_one_pass_is_seen_by_all(rt: HostRuntime) -> Result<(), Fail> {
+    let (shared, work, mut passes) = Shared::build(rt.alloc(), 2, 32, 2)?;
+    let second = last(&rt, &shared, &mut passes);
+    let first = last(&rt, &shared, &mut passes);
+    a_fatal_block_is_seen::<HostRuntime, Brand>(
         &rt,
         rt.alloc(),
         Blank::new(1),
