@@ -16,6 +16,8 @@ mod register;
 mod section;
 mod setup;
 mod structure;
+#[cfg(test)]
+mod tests;
 mod trigger;
 
 pub use block::injected_block;
