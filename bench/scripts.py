@@ -11,20 +11,21 @@ PROGRAM = os.path.join(TOP, "crates/script_bench/out/script_bench")
 LINES = 10_000
 
 
-def run(shape, reads):
-    """How many bytes the script has, and how many instructions a run takes that reads it so often."""
+def run(shape, sources, reads):
+    """How many bytes the script has, and how many instructions a run takes that reads it so often over so many sources."""
     done = subprocess.run(
-        ["valgrind", "--tool=callgrind", f"--callgrind-out-file={os.devnull}", PROGRAM, shape, str(LINES), str(reads)],
+        ["valgrind", "--tool=callgrind", f"--callgrind-out-file={os.devnull}", PROGRAM, *map(str, (shape, LINES, sources, reads))],
         stdout=subprocess.PIPE, stderr=subprocess.PIPE, text=True, check=True)
     size = int(re.match(r"(\d+) bytes", done.stdout).group(1))
     return size, int(re.search(r"Collected : (\d+)", done.stderr).group(1))
 
 
 def main():
-    for shape, line in (("raise", "raise SOURCE HEX"), ("nmi", "nmi SOURCE")):
-        size, one = run(shape, 1)
-        _, two = run(shape, 2)
-        print(f"a byte of lines `{line}`: {(two - one) / size:.1f} instructions")
+    for shape, line in (("raise", "raise 1 HEX` of 164 bytes"), ("bare", "raise 1 HEX` of 20 bytes"), ("nmi", "nmi 1`")):
+        for sources in (1, 64):
+            size, one = run(shape, sources, 1)
+            _, two = run(shape, sources, 2)
+            print(f"a byte of lines `{line}, over {sources} sources: {(two - one) / size:.1f} instructions")
 
 
 if __name__ == "__main__":

@@ -1,11 +1,12 @@
 -- A field of a section: where it stands, when it is given, and what it says (UEFI 2.10, appendix N.2).
-use Rattle.std.specs.Prelude.{ℕ, ◌+◌, ◌==◌, ◌&&◌, nat_le, if◌then◌else◌, Bool, List, length, take, drop, Option, Some, None}
+use Rattle.std.specs.Prelude.{ℕ, ◌+◌, ◌==◌, ◌&&◌, nat_lt, nat_le, if◌then◌else◌, Bool, List, length, take, drop, Option, Some, None}
 use Rattle.std.specs.Int.{bit_at}
 use Rattle.std.specs.List.{before_first}
 use Rattle.std.specs.Option.{option_map}
 use Rattle.apei_base.specs.Number.{number_at}
 use Rattle.cper_sections.specs.declared.form.Form.{Form}
 use Rattle.cper_sections.specs.declared.form.Form.TheVariants.{Number, Bytes, Text}
+use Rattle.cper_sections.specs.Form.{is_read}
 
 -- A field of a section: its name, its bit of the validation number, its offset and its width in bytes, and how it is
 -- read (UEFI 2.10, appendix N.2; the names: own choice).
@@ -60,3 +61,8 @@ bytes_of field bytes = bytes_in field.bit field.at field.width bytes
 
 abbrev pub text_of : Field → List ℕ → Option (List ℕ)
 text_of field bytes = text_in field.bit field.at field.width bytes
+
+-- a field can be read: its bit is one of the 64 of the validation number, it lies in the longest section, and it is as wide as how it is
+-- read asks for (UEFI 2.10, appendix N.2)
+abbrev pub is_field : Field → Bool
+is_field field = nat_lt field.bit 64 && (nat_le (end_of field) 208 && is_read field.form field.width)

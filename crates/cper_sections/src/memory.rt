@@ -43,11 +43,19 @@ impl Memory<'_> {
     const RANK:             Row = Row { name: "rank",                bit: 15, at:  74, width:   2, form: Form::Number };
     const CARD_HANDLE:      Row = Row { name: "card handle",         bit: 16, at:  76, width:   2, form: Form::Number };
     const MODULE_HANDLE:    Row = Row { name: "module handle",       bit: 17, at:  78, width:   2, form: Form::Number };
+
+    // All of them, in order.
+    const ROWS: [Row; 18] = [
+        Self::STATUS, Self::PHYSICAL_ADDRESS, Self::MASK, Self::NODE, Self::CARD, Self::MODULE,
+        Self::BANK, Self::DEVICE, Self::ROW, Self::COLUMN, Self::BIT_POSITION, Self::REQUESTOR,
+        Self::RESPONDER, Self::TARGET, Self::KIND, Self::RANK, Self::CARD_HANDLE, Self::MODULE_HANDLE,
+    ];
 }
 
 impl<'a> Memory<'a> {
-    ghost use Rattle.std.specs.Prelude.{◌≤◌, length, map};
-    ghost use Rattle.cper_sections.specs.Field.{number_of};
+    ghost use Rattle.std.specs.Prelude.{◌≤◌, length, map, true};
+    ghost use Rattle.std.specs.List.{list_all};
+    ghost use Rattle.cper_sections.specs.Field.{is_field, number_of};
     ghost use Rattle.cper_sections.specs.Row.{field_of};
     ghost use Rattle.cper_sections.specs.Memory as fields;
 
@@ -60,15 +68,11 @@ impl<'a> Memory<'a> {
     }
 
     /// The table of the fields, in order.
-    #[rattlefmt::skip]
-    pub fn rows(&self) -> [Row; 18]
-        ensures { map field_of result ≡ fields.memory_fields }
+    pub fn rows(&self) -> &'static [Row]
+        ensures value { map field_of result.now ≡ fields.memory_fields }
+        ensures sound { list_all is_field (map field_of result.now) ≡ true }
     {
-        [
-            Self::STATUS, Self::PHYSICAL_ADDRESS, Self::MASK, Self::NODE, Self::CARD, Self::MODULE,
-            Self::BANK, Self::DEVICE, Self::ROW, Self::COLUMN, Self::BIT_POSITION, Self::REQUESTOR,
-            Self::RESPONDER, Self::TARGET, Self::KIND, Self::RANK, Self::CARD_HANDLE, Self::MODULE_HANDLE,
-        ]
+        &Self::ROWS
     }
 
     /// The bytes of the section.

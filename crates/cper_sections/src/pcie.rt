@@ -44,12 +44,20 @@ impl Pcie<'_> {
     const BRIDGE_CONTROL: Row = Row { name: "bridge control",      bit:  5, at:  50, width:   2, form: Form::Number };
     const CAPABILITY:     Row = Row { name: "capability",          bit:  6, at:  52, width:  60, form: Form::Bytes };
     const AER:            Row = Row { name: "aer",                 bit:  7, at: 112, width:  96, form: Form::Bytes };
+
+    // All of them, in order.
+    const ROWS: [Row; 19] = [
+        Self::PORT_TYPE, Self::VERSION_MINOR, Self::VERSION_MAJOR, Self::COMMAND, Self::STATUS, Self::VENDOR,
+        Self::DEVICE_ID, Self::CLASS, Self::FUNCTION, Self::DEVICE, Self::SEGMENT, Self::BUS, Self::SECONDARY_BUS,
+        Self::SLOT, Self::SERIAL, Self::BRIDGE_STATUS, Self::BRIDGE_CONTROL, Self::CAPABILITY, Self::AER,
+    ];
 }
 
 impl<'a> Pcie<'a> {
-    ghost use Rattle.std.specs.Prelude.{◌≤◌, length, map};
+    ghost use Rattle.std.specs.Prelude.{◌≤◌, length, map, true};
+    ghost use Rattle.std.specs.List.{list_all};
     ghost use Rattle.std.specs.Option.{option_copied};
-    ghost use Rattle.cper_sections.specs.Field.{number_of, bytes_of};
+    ghost use Rattle.cper_sections.specs.Field.{is_field, number_of, bytes_of};
     ghost use Rattle.cper_sections.specs.Row.{field_of};
     ghost use Rattle.cper_sections.specs.Pcie as fields;
 
@@ -62,15 +70,11 @@ impl<'a> Pcie<'a> {
     }
 
     /// The table of the fields, in order.
-    #[rattlefmt::skip]
-    pub fn rows(&self) -> [Row; 19]
-        ensures { map field_of result ≡ fields.pcie_fields }
+    pub fn rows(&self) -> &'static [Row]
+        ensures value { map field_of result.now ≡ fields.pcie_fields }
+        ensures sound { list_all is_field (map field_of result.now) ≡ true }
     {
-        [
-            Self::PORT_TYPE, Self::VERSION_MINOR, Self::VERSION_MAJOR, Self::COMMAND, Self::STATUS, Self::VENDOR,
-            Self::DEVICE_ID, Self::CLASS, Self::FUNCTION, Self::DEVICE, Self::SEGMENT, Self::BUS, Self::SECONDARY_BUS,
-            Self::SLOT, Self::SERIAL, Self::BRIDGE_STATUS, Self::BRIDGE_CONTROL, Self::CAPABILITY, Self::AER,
-        ]
+        &Self::ROWS
     }
 
     /// The bytes of the section.

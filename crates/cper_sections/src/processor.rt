@@ -38,12 +38,20 @@ impl Processor<'_> {
     const REQUESTOR:           Row = Row { name: "requestor",           bit: 10, at: 168, width:   8, form: Form::Number };
     const RESPONDER:           Row = Row { name: "responder",           bit: 11, at: 176, width:   8, form: Form::Number };
     const INSTRUCTION_POINTER: Row = Row { name: "instruction pointer", bit: 12, at: 184, width:   8, form: Form::Number };
+
+    // All of them, in order.
+    const ROWS: [Row; 13] = [
+        Self::PROCESSOR_TYPE, Self::ISA, Self::ERROR_TYPE, Self::OPERATION, Self::FLAGS,
+        Self::LEVEL, Self::VERSION, Self::BRAND, Self::ID, Self::TARGET_ADDRESS,
+        Self::REQUESTOR, Self::RESPONDER, Self::INSTRUCTION_POINTER,
+    ];
 }
 
 impl<'a> Processor<'a> {
-    ghost use Rattle.std.specs.Prelude.{◌≤◌, length, map};
+    ghost use Rattle.std.specs.Prelude.{◌≤◌, length, map, true};
+    ghost use Rattle.std.specs.List.{list_all};
     ghost use Rattle.std.specs.Option.{option_copied};
-    ghost use Rattle.cper_sections.specs.Field.{number_of, text_of};
+    ghost use Rattle.cper_sections.specs.Field.{is_field, number_of, text_of};
     ghost use Rattle.cper_sections.specs.Row.{field_of};
     ghost use Rattle.cper_sections.specs.Processor as fields;
 
@@ -56,15 +64,11 @@ impl<'a> Processor<'a> {
     }
 
     /// The table of the fields, in order.
-    #[rattlefmt::skip]
-    pub fn rows(&self) -> [Row; 13]
-        ensures { map field_of result ≡ fields.processor_fields }
+    pub fn rows(&self) -> &'static [Row]
+        ensures value { map field_of result.now ≡ fields.processor_fields }
+        ensures sound { list_all is_field (map field_of result.now) ≡ true }
     {
-        [
-            Self::PROCESSOR_TYPE, Self::ISA, Self::ERROR_TYPE, Self::OPERATION, Self::FLAGS,
-            Self::LEVEL, Self::VERSION, Self::BRAND, Self::ID, Self::TARGET_ADDRESS,
-            Self::REQUESTOR, Self::RESPONDER, Self::INSTRUCTION_POINTER,
-        ]
+        &Self::ROWS
     }
 
     /// The bytes of the section.

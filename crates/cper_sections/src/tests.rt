@@ -1,6 +1,5 @@
 // Sections by their bytes.
 mod kinds;
-mod lengths;
 mod memory;
 mod pcie;
 mod processor;

@@ -1,4 +1,5 @@
 mod DigitLemmas
+mod FieldLemmas
 mod GrownLemmas
 mod Joining
 pub mod OwnBytes

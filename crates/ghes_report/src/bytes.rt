@@ -9,8 +9,8 @@ use std::alloc::AllocError;
 // How many bytes are made digits at once: 64 digits.
 const CHUNK: usize = 32;
 
-// Adds the digits of at most so many bytes.
-fn chunk_digits(text: &mut Text, bytes: &[u8]) -> Result<(), AllocError>
+/// Adds the digits of at most so many bytes.
+pub(crate) fn few_digits(text: &mut Text, bytes: &[u8]) -> Result<(), AllocError>
     requires { length bytes.now ≤ 32 }
     ensures ok { OnOk result (text.new.added ≡ text.old.added ++ encode_lower bytes.now) }
     ensures front { text.new.front ≡ text.old.front }
@@ -29,7 +29,7 @@ pub(crate) fn digits(text: &mut Text, bytes: &[u8]) -> Result<(), AllocError>
     let mut rest = bytes;
     while !rest.is_empty() {
         let (chunk, behind) = rest.split_at(rest.len().min(CHUNK));
-        chunk_digits(text, chunk)?;
+        few_digits(text, chunk)?;
         rest = behind;
     }
     Ok(())

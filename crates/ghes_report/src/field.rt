@@ -1,11 +1,12 @@
 //! The lines of fields, one for each row of a table whose field is given.
-ghost use Rattle.std.specs.Prelude.{◌≡◌, ◌≤◌, ◌++◌, length, map, OnOk};
-ghost use Rattle.std.specs.List.{flat_map};
+ghost use Rattle.std.specs.Prelude.{◌≡◌, ◌≤◌, ◌++◌, length, map, true, OnOk};
+ghost use Rattle.std.specs.List.{flat_map, list_all};
 ghost use Rattle.std.specs.Option.{option_copied};
+ghost use Rattle.cper_sections.specs.Field.{is_field};
 ghost use Rattle.cper_sections.specs.Row.{field_of};
 ghost use Rattle.ghes_report.specs.Section.{field_head, number_line, list_line, quoted_line, field_line};
 
-use crate::bytes::{bytes_line, digits, text_line};
+use crate::bytes::{bytes_line, few_digits, text_line};
 use crate::text::Text;
 use cper_sections::{Form, Row};
 use std::alloc::AllocError;
@@ -38,7 +39,7 @@ fn number_line(
     };
     field_head(text, name)?;
     text.put(b"0x")?;
-    digits(text, number.to_be_bytes().split_at(8 - width).1)?;
+    few_digits(text, number.to_be_bytes().split_at(8 - width).1)?;
     text.put(b"\n")
 }
 
@@ -71,10 +72,14 @@ fn quoted_line(text: &mut Text, name: &str, value: Option<&[u8]>) -> Result<(), 
 // Adds the line of the field of a row, where it is given.
 #[tactic(auto, using(cper_sections::proofs::RowLemmas::most_width))]
 fn field_line(text: &mut Text, row: &Row, bytes: &[u8]) -> Result<(), AllocError>
-    requires { 8 ≤ length bytes.now }
+    requires field { is_field (field_of row.now) ≡ true }
+    requires validation { 8 ≤ length bytes.now }
     ensures ok { OnOk result (text.new.added ≡ text.old.added ++ field_line bytes.now (field_of row.now)) }
     ensures front { text.new.front ≡ text.old.front }
 {
+    if !row.is_given(bytes) {
+        return Ok(());
+    }
     match row.form {
         Form::Number => number_line(text, row.name, row.width, row.number(bytes)),
         Form::Bytes => list_line(text, row.name, row.bytes(bytes)),
@@ -84,7 +89,8 @@ fn field_line(text: &mut Text, row: &Row, bytes: &[u8]) -> Result<(), AllocError
 
 /// Adds the lines of the fields of a section, by the rows of its table.
 pub(crate) fn field_lines(text: &mut Text, rows: &[Row], bytes: &[u8]) -> Result<(), AllocError>
-    requires { 8 ≤ length bytes.now }
+    requires fields { list_all is_field (map field_of rows.now) ≡ true }
+    requires validation { 8 ≤ length bytes.now }
     ensures ok { OnOk result (text.new.added ≡ text.old.added ++ flat_map (field_line bytes.now) (map field_of rows.now)) }
     ensures front { text.new.front ≡ text.old.front }
 {

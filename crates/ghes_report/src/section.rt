@@ -18,9 +18,9 @@ pub(crate) fn section_lines(text: &mut Text, section: &Section) -> Result<(), Al
     ensures front { text.new.front ≡ text.old.front }
 {
     match section {
-        Section::Memory(memory) => field_lines(text, &memory.rows(), memory.bytes()),
-        Section::Processor(cpu) => field_lines(text, &cpu.rows(), cpu.bytes()),
-        Section::Pcie(pcie) => field_lines(text, &pcie.rows(), pcie.bytes()),
+        Section::Memory(memory) => field_lines(text, memory.rows(), memory.bytes()),
+        Section::Processor(cpu) => field_lines(text, cpu.rows(), cpu.bytes()),
+        Section::Pcie(pcie) => field_lines(text, pcie.rows(), pcie.bytes()),
         Section::Short(_, bytes) => bytes_line(text, "    data ", bytes),
         Section::Other(bytes) => bytes_line(text, "    data ", bytes),
     }

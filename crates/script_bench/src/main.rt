@@ -1,7 +1,7 @@
 //! Reads a script of one line that stands in it again and again, so that `bench/scripts.py` can count what a byte costs.
 //!
-//! Three words: `raise` or `nmi`, how many lines there are, and how often the script is read. The answer is how many bytes the script
-//! has, and how many lines were read.
+//! Four words: `raise`, `bare` or `nmi`, how many lines there are, how many sources, and how often the script is read. The answer is how
+//! many bytes the script has, and how many lines were read.
 #![tactic(auto)]
 
 ghost use Rattle.std.specs.Prelude.{◌<◌, ◌^◌, length};
@@ -11,8 +11,8 @@ use std::alloc::{AllocError, Global};
 use std::rt::Env;
 use std::{env, io};
 
-/// A line that raises a block of one memory error, by the source with the highest id.
-const RAISE: &str = "raise 64 1200000000000000000000009000000002000000\
+/// A line that raises a block of one memory error.
+const RAISE: &str = "raise 1 1200000000000000000000009000000002000000\
     1411bca5646fde4eb8633e83ed7c83b1\
     020000000102000050000000\
     000000000000000000000000000000000000000000000000000000000000000000000000\
@@ -20,8 +20,11 @@ const RAISE: &str = "raise 64 1200000000000000000000009000000002000000\
     00000000000000000000000000000000000000000000000000000000000000000000000000000000\
     0200000000000000\n";
 
+/// A line that raises a block without data.
+const BARE: &str = "raise 1 0200000000000000000000000000000002000000\n";
+
 /// A line that calls the receiver.
-const NMI: &str = "nmi 64\n";
+const NMI: &str = "nmi 1\n";
 
 // The number of this word after the program's name, and 0 where there is none.
 fn number(rt: &(impl Env + AllocGlobal), index: usize) -> u32 {
@@ -34,18 +37,23 @@ fn number(rt: &(impl Env + AllocGlobal), index: usize) -> u32 {
     }
 }
 
-// Whether the first word is `raise`.
-fn raises(rt: &(impl Env + AllocGlobal)) -> bool {
-    match env::args(rt) {
-        Ok(mut words) => words.nth(1).is_some_and(|word| word.as_str() == "raise"),
-        Err(_) => false,
+// The line that the first word names.
+fn line(rt: &(impl Env + AllocGlobal)) -> &'static str {
+    let Ok(mut words) = env::args(rt) else {
+        return NMI;
+    };
+    match words.nth(1) {
+        Some(word) if word.as_str() == "raise" => RAISE,
+        Some(word) if word.as_str() == "bare" => BARE,
+        _ => NMI,
     }
 }
 
-// Sources with the ids 1 to 64.
-fn sources(alloc: Global) -> Result<Vec<SourceName>, AllocError> {
+// So many sources, with the ids from 1 on.
+fn sources(alloc: Global, count: u16) -> Result<Vec<SourceName>, AllocError> {
     let mut names = Vec::new(alloc);
-    for id in 1..=64u16 {
+    for number in 0..count {
+        let id = number.saturating_add(1);
         names.push(SourceName { id, v2: false })?;
     }
     Ok(names)
@@ -74,15 +82,14 @@ fn lines(alloc: Global, bytes: &[u8], names: &[SourceName], times: u32) -> Resul
 
 fn main(rt: HostRuntime) -> io::Result<()> {
     let alloc = rt.alloc();
-    let names = sources(alloc)?;
-    let line = if raises(&rt) { RAISE } else { NMI };
-    let bytes = script(alloc, line, number(&rt, 2).min(1_000_000))?;
+    let names = sources(alloc, number(&rt, 3).min(64) as u16)?;
+    let bytes = script(alloc, line(&rt), number(&rt, 2).min(1_000_000))?;
     let size = bytes.len();
     if size >= 1 << 32 {
         println!(rt; "too long")?;
         return Ok(());
     }
-    match lines(alloc, &bytes, &names, number(&rt, 3)) {
+    match lines(alloc, &bytes, &names, number(&rt, 4)) {
         Ok(lines) => println!(rt; "{size} bytes, {lines} lines"),
         Err(_) => println!(rt; "refused"),
     }

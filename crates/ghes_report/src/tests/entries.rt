@@ -1,10 +1,8 @@
-// Texts of the entries of a block.
-use super::{MEMORY, MEMORY_TEXT, lines_of};
-use std::test::Fail;
+// Blocks of entries, and their lines.
 
 // A block of two entries, of the revisions 0x0201 and 0x0300: each has its GUID, its severity to length, its FRU id,
 // its FRU text and its section, and the second a timestamp before that.
-const TWO: &str = "2200000000000000000000009000000002000000\
+pub const TWO: &str = "2200000000000000000000009000000002000000\
     33221100554477668899aabbccddeeff020000000102000004000000\
     000000000000000000000000000000000000000000000000000000000000000000000000\
     01020304\
@@ -13,7 +11,7 @@ const TWO: &str = "2200000000000000000000009000000002000000\
     0000000000000000\
     01020304";
 
-const TWO_TEXT: &str = "  severity corrected
+pub const TWO_TEXT: &str = "  severity corrected
   entry 0 section 00112233-4455-6677-8899-aabbccddeeff severity corrected
     data 01020304
   entry 1 section 00112233-4455-6677-8899-aabbccddeeff severity corrected
@@ -21,7 +19,7 @@ const TWO_TEXT: &str = "  severity corrected
 ";
 
 // The same with validation 7, with each optional field, and with the severities 0 and 3.
-const TWO_WITH_ALL: &str = "2200000000000000000000009000000002000000\
+pub const TWO_WITH_ALL: &str = "2200000000000000000000009000000002000000\
     33221100554477668899aabbccddeeff000000000102070004000000\
     00112233445566778899aabbccddeeff\
     44494d4d20413100000000000000000000000000\
@@ -32,7 +30,7 @@ const TWO_WITH_ALL: &str = "2200000000000000000000009000000002000000\
     1112131415161718\
     01020304";
 
-const TWO_WITH_ALL_TEXT: &str = "  severity corrected
+pub const TWO_WITH_ALL_TEXT: &str = "  severity corrected
   entry 0 section 00112233-4455-6677-8899-aabbccddeeff severity recoverable
     fru id 33221100-5544-7766-8899-aabbccddeeff
     fru text \"DIMM A1\"
@@ -45,48 +43,6 @@ const TWO_WITH_ALL_TEXT: &str = "  severity corrected
 ";
 
 // A block of one entry with severity 4, a FRU text and no section, without the 20 bytes of the text.
-const FRU_TEXT: &str = "1200000000000000000000004000000002000000\
+pub const FRU_TEXT: &str = "1200000000000000000000004000000002000000\
     33221100554477668899aabbccddeeff040000000102020000000000\
     00000000000000000000000000000000";
-
-#[test]
-fn each_entry_has_its_own_lines(rt: HostRuntime) -> Result<(), Fail> {
-    for (name, block, text) in [
-        ("one memory error", MEMORY, MEMORY_TEXT),
-        ("two revisions", TWO, TWO_TEXT),
-        (
-            "all that an entry may have",
-            TWO_WITH_ALL,
-            TWO_WITH_ALL_TEXT,
-        ),
-    ] {
-        let bytes = hex::decode(rt.alloc(), block)?;
-        let lines = lines_of(rt.alloc(), &bytes)?;
-        assert!(rt; lines.as_slice() == text.as_bytes(), "at {name}");
-    }
-    Ok(())
-}
-
-#[test]
-fn a_text_is_printed_up_to_its_first_0_with_dots(rt: HostRuntime) -> Result<(), Fail> {
-    const CASES: [(&str, &str); 5] = [
-        ("0000000000000000000000000000000000000000", ""),
-        (
-            "4142434445464748494a4b4c4d4e4f5051525354",
-            "ABCDEFGHIJKLMNOPQRST",
-        ),
-        ("44494d4d00413100000000000000000000000000", "DIMM"),
-        ("1f207e7f80ff0a41000000000000000000000000", ". ~....A"),
-        ("225c226e00000000000000000000000000000000", "\"\\\"n"),
-    ];
-    for (digits, shown) in &CASES {
-        let block = format!(in rt.alloc(); "{FRU_TEXT}{digits}")?;
-        let bytes = hex::decode(rt.alloc(), block.as_str())?;
-        let lines = lines_of(rt.alloc(), &bytes)?;
-        let text = format!(in rt.alloc();
-            "  severity corrected\n  entry 0 section 00112233-4455-6677-8899-aabbccddeeff severity fatal\n    fru text \"{shown}\"\n    data empty\n"
-        )?;
-        assert!(rt; lines.as_slice() == text.as_bytes(), "at {digits}");
-    }
-    Ok(())
-}

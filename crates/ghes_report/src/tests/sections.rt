@@ -1,16 +1,14 @@
-// Texts of sections of each kind, with each of their fields, and of a short one.
-use super::lines_of;
-use std::test::Fail;
+// Blocks of sections of each kind, with each of their fields, and of a short one, and their lines.
 
 // A block of one memory section without its last byte, 72 bytes: physical address, mask and type are valid.
-const SHORT: &str = "1200000000000000000000008800000002000000\
+pub const SHORT: &str = "1200000000000000000000008800000002000000\
     1411bca5646fde4eb8633e83ed7c83b1\
     020000000102000048000000\
     000000000000000000000000000000000000000000000000000000000000000000000000\
     06400000000000000000000000000000005034120000000000f0ffffffffffff\
     00000000000000000000000000000000000000000000000000000000000000000000000000000000";
 
-const SHORT_TEXT: &str = "  severity corrected
+pub const SHORT_TEXT: &str = "  severity corrected
   entry 0 memory short severity corrected
     data \
     06400000000000000000000000000000005034120000000000f0ffffffffffff\
@@ -18,7 +16,7 @@ const SHORT_TEXT: &str = "  severity corrected
 ";
 
 // A block of one memory section of 80 bytes, in which all 18 fields are valid: eight bytes a line.
-const MEMORY_WITH_ALL: &str = "1200000000000000000000009000000002000000\
+pub const MEMORY_WITH_ALL: &str = "1200000000000000000000009000000002000000\
     1411bca5646fde4eb8633e83ed7c83b1\
     020000000102000050000000\
     000000000000000000000000000000000000000000000000000000000000000000000000\
@@ -33,7 +31,7 @@ const MEMORY_WITH_ALL: &str = "1200000000000000000000009000000002000000\
     7877767574737271\
     8100838285848786";
 
-const MEMORY_WITH_ALL_TEXT: &str = "  severity corrected
+pub const MEMORY_WITH_ALL_TEXT: &str = "  severity corrected
   entry 0 memory severity corrected
     status 0x0102030405060708
     physical address 0x1112131415161718
@@ -56,7 +54,7 @@ const MEMORY_WITH_ALL_TEXT: &str = "  severity corrected
 ";
 
 // A block of one processor section, in which all fields are valid; its brand is 8 letters, a 0 and a letter.
-const PROCESSOR: &str = "1200000000000000000000000001000002000000\
+pub const PROCESSOR: &str = "1200000000000000000000000001000002000000\
     adcc7698b447db4bb65e16f193c4f3db\
     0200000001020000c0000000\
     000000000000000000000000000000000000000000000000000000000000000000000000\
@@ -77,7 +75,7 @@ const PROCESSOR: &str = "1200000000000000000000000001000002000000\
     4847464544434241\
     5857565554535251";
 
-const PROCESSOR_TEXT: &str = "  severity corrected
+pub const PROCESSOR_TEXT: &str = "  severity corrected
   entry 0 processor severity corrected
     processor type 0x02
     isa 0x03
@@ -95,7 +93,7 @@ const PROCESSOR_TEXT: &str = "  severity corrected
 ";
 
 // A block of one PCIe section, in which all fields are valid: eight bytes a line, and then the two structures.
-const PCIE: &str = "1200000000000000000000001001000002000000\
+pub const PCIE: &str = "1200000000000000000000001001000002000000\
     54e995d9c1bb0f43ad91b44dcb3c6f35\
     0200000001020000d0000000\
     000000000000000000000000000000000000000000000000000000000000000000000000\
@@ -117,7 +115,7 @@ const PCIE: &str = "1200000000000000000000001001000002000000\
     404142434445464748494a4b4c4d4e4f\
     505152535455565758595a5b5c5d5e5f";
 
-const PCIE_TEXT: &str = "  severity corrected
+pub const PCIE_TEXT: &str = "  severity corrected
   entry 0 pcie severity corrected
     port type 0x00000004
     version minor 0x01
@@ -142,20 +140,3 @@ const PCIE_TEXT: &str = "  severity corrected
     202122232425262728292a2b2c2d2e2f303132333435363738393a3b3c3d3e3f\
     404142434445464748494a4b4c4d4e4f505152535455565758595a5b5c5d5e5f
 ";
-
-#[test]
-fn each_kind_of_section_has_its_fields_and_a_short_one_its_bytes(
-    rt: HostRuntime,
-) -> Result<(), Fail> {
-    for (name, block, text) in [
-        ("a short memory section", SHORT, SHORT_TEXT),
-        ("a memory section", MEMORY_WITH_ALL, MEMORY_WITH_ALL_TEXT),
-        ("a processor section", PROCESSOR, PROCESSOR_TEXT),
-        ("a PCIe section", PCIE, PCIE_TEXT),
-    ] {
-        let bytes = hex::decode(rt.alloc(), block)?;
-        let lines = lines_of(rt.alloc(), &bytes)?;
-        assert!(rt; lines.as_slice() == text.as_bytes(), "at {name}");
-    }
-    Ok(())
-}

@@ -11,10 +11,10 @@ loop-rest-preserved c =
     let front = c.split_at.result.0.now in
     let back = c.split_at.result.1.now in
     let cut = digits_cut _ c.loop-rest.rest.now front back c.split_at.ensures.front c.split_at.ensures.back in (
-      ap (λ xs. xs ++ encode_lower back) c.in_ok-chunk_digits.ensures.ok
+      ap (λ xs. xs ++ encode_lower back) c.in_ok-few_digits.ensures.ok
           ∙ append_assoc before (encode_lower front) (encode_lower back) ∙ ap (λ xs. before ++ xs) cut
           ∙ c.loop-rest.invariant.0,
-      c.in_ok-chunk_digits.ensures.front ∙ c.loop-rest.invariant.1,
+      c.in_ok-few_digits.ensures.front ∙ c.loop-rest.invariant.1,
     )
 
 pub returns-clause-ok : goal.returns-clause-ok

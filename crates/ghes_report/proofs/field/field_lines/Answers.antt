@@ -5,6 +5,7 @@ use Rattle.cper_sections.specs.declared.row.Row.{Row}
 use Rattle.std.specs.List.{flat_map}
 use Rattle.cper_sections.specs.Row.{field_of}
 use Rattle.ghes_report.specs.Section.{field_line}
+use Rattle.ghes_report.proofs.FieldLemmas.{first_and_rest}
 use Rattle.ghes_report.proofs.field.field_lines.Goals as goal
 
 pub loop-row-preserved : goal.loop-row-preserved
@@ -16,6 +17,7 @@ loop-row-preserved c =
       ap (λ xs. xs ++ later) c.in_ok-field_line.ensures.ok ∙ append_assoc before (line (field_of row)) later
           ∙ ap (λ rows. before ++ flat_map line (map field_of rows)) (sym c.in-Some.ensures.cases.0) ∙ c.loop-row.invariant.0,
       c.in_ok-field_line.ensures.front ∙ c.loop-row.invariant.1,
+      (first_and_rest c.loop-row.rest.now row c.in-Some.behind.now c.in-Some.ensures.cases.0 c.loop-row.invariant.2).1,
     )
 
 pub returns-clause-ok : goal.returns-clause-ok
