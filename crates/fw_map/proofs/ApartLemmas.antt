@@ -1,29 +1,28 @@
 -- The sources of a map are told apart.
-use Rattle.std.proofs.Common.{◌≡◌, ◌≢◌, ◌≤◌, ◌<◌, ◌+◌, ◌/◌, ◌^◌, ◌⊎◌, ℕ, zero, suc, max, min, Bool, true, false, not, ◌&&◌, ◌||◌, ◌==◌, List, [], ◌∷◌, ◌++◌, map, length, get_or, take, Option, Some, None, refl, sym, ap, ◌∙◌, subst, arith, ⊎_elim}
-use Rattle.std.proofs.lemmas.Bool.{cases_Bool, both_ways, and_parts, or_parts, false_from_ne_true, eqb-true}
-use Rattle.std.proofs.lemmas.List.{append_assoc, map-append, get_or-map, length-map, get_or_default}
+use Rattle.std.proofs.Common.{◌≡◌, ◌≤◌, ◌<◌, ◌/◌, ℕ, zero, suc, Bool, true, false, ◌&&◌, ◌==◌, List, [], ◌∷◌, ◌++◌, length, get_or, take, Option, Some, None, refl, sym, ap, ◌∙◌, subst, arith}
+use Rattle.std.proofs.lemmas.Bool.{both_ways, and_parts, or_parts, false_from_ne_true, eqb-true}
+use Rattle.std.proofs.lemmas.List.{append_assoc, map-append, get_or-map, length-map}
 use Rattle.std.proofs.lemmas.List.Folds.{list_any-append, list_any_at}
 use Rattle.std.specs.List.{flat_map, AllByRecursion}
 use Rattle.std.specs.Option.{IfSome, option_map}
 use Rattle.apei_base.specs.Bus.{Reach, same_space, same_reach}
-use Rattle.apei_base.specs.Firmware.{is_ack, is_reach, block_status}
-use Rattle.apei_base.specs.Region.{access_width}
+use Rattle.apei_base.specs.Firmware.{is_reach}
 use Rattle.apei_base.specs.declared.region.Space.{Space}
 use Rattle.apei_base.specs.declared.region.Space.TheVariants.{Memory, Port}
 use Rattle.apei_hest.specs.Sound.{IsSound}
 use Rattle.apei_hest.specs.Source.{limit_of}
 use Rattle.apei_hest.specs.declared.source.Ack2.{Ack2}
 use Rattle.apei_hest.specs.declared.source.Ghes.{Ghes}
-use Rattle.fw_map.specs.Apart.{gas_reach, layout_of, IsToldApart, AreToldApart}
-use Rattle.fw_map.specs.Areas.{AreAreasOf, lengths_of, limits_of, reach_of_status}
-use Rattle.fw_map.specs.Overlap.{clash, AreApart}
-use Rattle.fw_map.specs.Placement.{ArePlaced, place_at}
+use Rattle.fw_map.specs.Apart.{gas_reach, IsToldApart, AreToldApart}
+use Rattle.fw_map.specs.Areas.{AreAreasOf, reach_of_status}
+use Rattle.fw_map.specs.Overlap.{AreApart}
+use Rattle.fw_map.specs.Placement.{place_at}
 use Rattle.fw_map.specs.Registers.{gas_run, ack_registers, source_registers, runs_of}
-use Rattle.fw_map.specs.Runs.{end_of, shares, is_taken}
+use Rattle.fw_map.specs.Runs.{shares, is_taken}
 use Rattle.fw_map.specs.declared.error.Owner.TheVariants.{Source}
 use Rattle.fw_map.specs.declared.run.Register.{Register}
 use Rattle.fw_map.specs.declared.run.Run.{Run}
-use Rattle.fw_map.proofs.PlaceLemmas.{Meets, meets, shares_from}
+use Rattle.fw_map.proofs.PlaceLemmas.{shares_from}
 use Rattle.fw_map.proofs.RegisterLemmas.{each_at}
 use Rattle.fw_map.proofs.WidthLemmas.{access_bounds}
 
@@ -70,7 +69,8 @@ apart_behind : (front more : List Register) → AreApart (front ++ more) → Are
 apart_behind [] more apart = apart
 apart_behind (register ∷ front) more apart = apart_behind front more (apart_tail register (front ++ more) apart)
 
-and_true : (b : Bool) → (b && true) ≡ false → b ≡ false
+-- a test beside one that holds
+pub and_true : (b : Bool) → (b && true) ≡ false → b ≡ false
 and_true true is = is
 and_true false is = refl
 
@@ -98,7 +98,8 @@ alike one other is =
     let front = and_parts (same_space one.space other.space) (one.address == other.address) both.0 in
     record { space = front.0; address = eqb-true one.address other.address front.1; width = eqb-true one.width other.width both.1 }
 
-same_flip : (one other : Space) → same_space one other ≡ true → same_space other one ≡ true
+-- two spaces that are one, the other way round
+pub same_flip : (one other : Space) → same_space one other ≡ true → same_space other one ≡ true
 same_flip Memory Memory is = refl
 same_flip Memory Port is = is
 same_flip Port Memory is = is

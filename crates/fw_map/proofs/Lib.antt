@@ -1,5 +1,6 @@
 mod ApartLemmas
 mod AreaLemmas
+mod LawLemmas
 mod MapLemmas
 mod OverlapLemmas
 mod PlaceLemmas

@@ -1,5 +1,5 @@
 -- How wide accesses are.
-use Rattle.std.proofs.Common.{◌≡◌, ◌≤◌, ◌+◌, ◌/◌, ◌%◌, ◌^◌, ◌⊎◌, ◌&&◌, ◌==◌, ℕ, max, Bool, true, false, cond, leb, refl, sym, subst, arith, ⊎_elim, inl, inr}
+use Rattle.std.proofs.Common.{◌≡◌, ◌≤◌, ◌/◌, ◌^◌, ◌⊎◌, ◌==◌, ℕ, max, Bool, true, false, cond, leb, refl, sym, subst, arith, ⊎_elim, inl, inr}
 use Rattle.apei_base.specs.Region.{access_width, coded_width, smallest_width, bits_needed, is_whole}
 use Rattle.apei_base.specs.declared.gas.Gas.{Gas}
 

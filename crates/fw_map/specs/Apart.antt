@@ -1,5 +1,5 @@
 -- What keeps the cells of a source from one another: what a map gives to those who build its ports.
-use Rattle.std.specs.Prelude.{◌≡◌, ◌≢◌, ◌≤◌, ◌<◌, ℕ, ◌+◌, ◌^◌, false, List, length, slice_index_or}
+use Rattle.std.specs.Prelude.{◌≡◌, ◌≢◌, ◌≤◌, ◌<◌, ℕ, ◌^◌, false, List, length, slice_index_or}
 use Rattle.std.specs.Option.{IfSome, option_map}
 use Rattle.apei_base.specs.Bus.{Reach}
 use Rattle.apei_base.specs.Firmware.{Layout, is_ack, block_status}

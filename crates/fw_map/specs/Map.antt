@@ -9,6 +9,11 @@ use Rattle.fw_map.specs.Registers.{registers_of, entries_of, runs_of}
 use Rattle.fw_map.specs.declared.error.FwError.{FwError}
 use Rattle.fw_map.specs.declared.error.FwError.TheVariants.{Overlap, Room, Narrow, OutOfMemory}
 use Rattle.fw_map.specs.declared.map.Map.{Map}
+use Rattle.fw_map.specs.declared.run.Run.{Run}
+
+-- all areas of a machine, in order: those of the sources, the trigger table and the trigger cell (own choice)
+abbrev pub all_areas : Map → List Run
+all_areas map = map.areas.items ++ trigger_areas map.trigger
 
 -- This is the map of a machine with these enabled sources and this injection table: its registers are theirs, no two of them
 -- clash, and its areas are placed in the order of the sources, before those of the injection table.
@@ -17,7 +22,7 @@ pub record IsMapOf (sources : List Ghes) (einj : Option (List Entry)) (map : Map
   pub apart : AreApart map.registers.items
   pub areas : AreAreasOf (runs_of map.registers.items) sources map.areas.items
   pub trigger : lengths_of (trigger_areas map.trigger) ≡ trigger_lengths einj
-  pub placed : ArePlaced (runs_of map.registers.items) (map.areas.items ++ trigger_areas map.trigger)
+  pub placed : ArePlaced (runs_of map.registers.items) (all_areas map)
 
 -- why the machine has no map: two registers overlap, or none do and a status address register is too narrow (own choice)
 abbrev pub IsRefusedWith : List Ghes → Option (List Entry) → FwError → Type 0

@@ -1,5 +1,5 @@
 -- Runs of cells, and when two of them share one.
-use Rattle.std.specs.Prelude.{ℕ, ◌+◌, max, Bool, ◌&&◌, nat_lt, nat_le, List}
+use Rattle.std.specs.Prelude.{ℕ, ◌+◌, max, Bool, ◌&&◌, nat_lt, nat_le, List, IsTrue}
 use Rattle.std.specs.List.{list_any}
 use Rattle.apei_base.specs.Bus.{same_space}
 use Rattle.apei_base.specs.declared.region.Space.{Space}
@@ -25,3 +25,7 @@ shares one other =
 -- a run shares a cell with one of some runs (own choice)
 abbrev pub is_taken : List Run → Run → Bool
 is_taken runs run = list_any (λ taken. shares taken run) runs
+
+-- there is a cell that both runs have (own choice)
+abbrev pub HaveCommonCell : Run → Run → Type 0
+HaveCommonCell one other = (space : Space) × (address : ℕ) × IsTrue (has_cell one space address) × IsTrue (has_cell other space address)

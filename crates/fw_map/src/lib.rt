@@ -5,6 +5,7 @@
 
 mod areas;
 mod error;
+mod laws;
 mod map;
 mod mapped;
 mod overlap;
@@ -16,6 +17,9 @@ mod taken;
 mod tests;
 
 pub use error::{FwError, Owner};
+pub use laws::{
+    a_cell_of_a_map_has_one_owner, runs_share_a_cell_where_both_have_one, tables_have_one_map,
+};
 pub use map::{Map, Trigger};
 pub use registers::enabled_sources;
 pub use run::{Register, Run};

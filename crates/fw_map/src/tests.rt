@@ -93,10 +93,7 @@ fn table(alloc: Global, parts: [&str; 3], changes: [Change; 2]) -> Result<Vec<u8
 
 // The sample of two sources, with changes.
 fn hest(alloc: Global, changes: [Change; 2]) -> Result<Hest, Fail> {
-    Ok(Hest::read(
-        alloc,
-        &table(alloc, [HEST, SOURCE, SOURCE_2], changes)?,
-    )?)
+    Ok(Hest::read(alloc, &table(alloc, [HEST, SOURCE, SOURCE_2], changes)?)?)
 }
 
 // The sample of an injection table, with a change.

@@ -36,10 +36,7 @@ const CASES: [Case; 8] = [
     ),
     // The area of 8,192 bytes has no room there, and that of 4,096 bytes has.
     (
-        [
-            (ADDRESS, &[0, 0x10, 0, 0x10]),
-            (BLOCK_LENGTH, &[0, 0x20]),
-        ],
+        [(ADDRESS, &[0, 0x10, 0, 0x10]), (BLOCK_LENGTH, &[0, 0x20])],
         [0x1001_0000, 0x1000_0000, 0x1002_0000, 0x1003_0000],
     ),
     // A port is in the way of no area.
