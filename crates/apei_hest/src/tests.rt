@@ -89,7 +89,7 @@ fn told(alloc: Global, bytes: &[u8]) -> Result<String, Fail> {
     }
 }
 
-// The same of the table that states this count and has these structures.
+// What is told of the table that states this count and has these structures.
 fn told_of(alloc: Global, count: u32, structures: &[u8]) -> Result<String, Fail> {
     told(alloc, &table(alloc, count, structures)?)
 }

@@ -108,9 +108,12 @@ impl<P: Firmware> Firmware for Faulty<P> {
 
     ghost same = { λ one other equal. planned_same _ _ equal (P.same one.inner other.inner) };
 
-    ghost moves = { λ before after access step. planned_moves access _ _ _ _ step.1 (P.moves before.inner after.inner access step.0) };
+    ghost moves = { λ before after access step. planned_moves access _ _ _ _ step.1
+        (P.moves before.inner after.inner access step.0) };
 
-    ghost looks = { λ before after access step look. P.looks before.inner after.inner access step.0 look };
+    ghost looks = { λ before after access step look.
+        P.looks before.inner after.inner access step.0 look };
 
-    ghost sound = { λ port. planned_sound (P.sound port.inner) (few_planned port.attempts.plan port.attempts.are_due) };
+    ghost sound = { λ port. planned_sound (P.sound port.inner)
+        (few_planned port.attempts.plan port.attempts.are_due) };
 }

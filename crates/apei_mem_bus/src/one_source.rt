@@ -30,7 +30,8 @@ pub struct OneSource {
     pub acknowledged: usize,
     /// Whether the acknowledgement of a cleared block is awaited.
     pub waits: bool,
-    pub ghost is: { IsWhole (seen_by_parts (reach_of status) (option_map reach_of ack) area room cell made.items acknowledged waits) } by { Prim.hlevel (props, raised_prop, fits_prop) },
+    pub ghost is: { IsWhole (seen_by_parts (reach_of status) (option_map reach_of ack)
+        area room cell made.items acknowledged waits) } by { Prim.hlevel (props, raised_prop, fits_prop) },
 }
 
 // The bytes of a block from a place on, and zeros behind it.
@@ -63,7 +64,8 @@ impl OneSource {
     fn clears(&self, at: &Region, value: u64) -> bool
         ensures below { OnTrue result (self.now.acknowledged < vec_len self.now.made) }
         ensures value { result
-            ≡ (same_reach (reach_of at.now) (block_status (⟦<OneSource as Bus>⟧.state self.now).layout)
+            ≡ (same_reach (reach_of at.now)
+            (block_status (⟦<OneSource as Bus>⟧.state self.now).layout)
             && (value == 0) && is_some (standing (⟦<OneSource as Bus>⟧.state self.now))) }
     {
         at.is_same(&Region::memory(self.area, 32)) && value == 0 && self.standing().is_some()
@@ -97,7 +99,8 @@ impl Bus for OneSource {
 
     ghost State = { Seen };
 
-    ghost state = { λ s. seen_by_parts (reach_of s.status) (option_map reach_of s.ack) s.area s.room s.cell s.made.items s.acknowledged s.waits };
+    ghost state = { λ s. seen_by_parts (reach_of s.status) (option_map reach_of s.ack)
+        s.area s.room s.cell s.made.items s.acknowledged s.waits };
 
     ghost step = { IsPlainStep };
 

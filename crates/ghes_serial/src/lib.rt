@@ -7,6 +7,8 @@ mod call;
 mod execute;
 mod pending;
 mod run;
+#[cfg(test)]
+mod tests;
 
 pub use blocks::Blocks;
 pub use execute::Replay;
