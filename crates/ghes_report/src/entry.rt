@@ -18,6 +18,7 @@ use std::alloc::AllocError;
 use uuid::Uuid;
 
 /// Adds a severity and the end of its line behind a head.
+#[inline(always)]
 #[tactic(auto, using(crate::proofs::Joining::grouped))]
 pub(crate) fn severity_end(
     text: &mut Text,

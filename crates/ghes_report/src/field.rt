@@ -12,6 +12,7 @@ use cper_sections::{Form, Row};
 use std::alloc::AllocError;
 
 // Adds what stands before the value of a field.
+#[inline(always)]
 #[tactic(auto, using(crate::proofs::Joining::grouped))]
 fn field_head(text: &mut Text, name: &str) -> Result<(), AllocError>
     ensures ok { OnOk result (text.new.added ≡ text.old.added ++ field_head name.now) }

@@ -4,7 +4,6 @@ ghost use Rattle.ghes_script.specs.Cut.{IsCutAt};
 use memchr::memchr;
 
 /// What stands before the first mark, and what stands behind it. Without a mark, the whole stands before.
-#[inline(always)]
 pub(crate) fn cut_at(mark: u8, bytes: &[u8]) -> (&[u8], &[u8])
     ensures { IsCutAt mark bytes.now result.0.now result.1.now }
 {
