@@ -9,15 +9,18 @@ use Rattle.ghes_call.specs.Receive.{ReceiveSeen, IsOfSource}
 use Rattle.ghes_call.specs.declared.call.Call.{Call}
 use Rattle.ghes_ledger.proofs.StepLemmas.{raise_line, lawful_raise}
 use Rattle.ghes_ledger.proofs.WorkLemmas.{takings}
-use Rattle.ghes_ledger.specs.Asks.{Note, Setting, Clock, Fail, Peek, Asks, Quiet, Makes, Drains, Ends}
+use Rattle.ghes_ledger.specs.Asks.{Note, Setting, Clock, Fail, Peek, Asks, Quiet, Makes, Injects, Drains, Ends}
 use Rattle.ghes_ledger.specs.History.{Made, Executed, calls_in, taken_in, clock_by, clock_after, fails_by}
 use Rattle.ghes_ledger.specs.Kept.{Kept, mark_of}
-use Rattle.ghes_ledger.specs.Lawful.{written_to, peeked}
+use Rattle.ghes_ledger.specs.Lawful.{written_to, peeked, MadeAtEnd, IsLawfulLine}
 use Rattle.ghes_ledger.specs.Names.{fatal_names, panic_names, fatals}
 use Rattle.ghes_ledger.specs.Plan.{Plan}
 use Rattle.ghes_ledger.specs.Queue.{blocks_of, queue, acknowledged, stuck_calls, faulty_calls, fails_in}
 use Rattle.ghes_ledger.specs.Reports.{reports_in, reports_at}
+use Rattle.ghes_ledger.specs.declared.ledger.InjectionEnd.{InjectionEnd}
+use Rattle.ghes_ledger.specs.declared.ledger.InjectionEnd.TheVariants.{Made as InjectionMade, NotAvailable, Busy, Status, Trigger, NoAddress}
 use Rattle.ghes_nmi.specs.Receive.{receive_seen}
+use Rattle.ghes_lines.specs.Injector.{IsWithoutBlock}
 use Rattle.ghes_lines.specs.Desk.{DeskSeen, worked, marked, drained}
 use Rattle.ghes_lines.specs.Follows.{blocks_in, IsTied, IsAccount, Follows}
 use Rattle.ghes_lines.specs.Machine.{plan_of}
@@ -201,3 +204,92 @@ module _ {P : Type 0} (seen : P → Seen) (faults : P → ℕ) (machine : Machin
       follows_quiet ports (slice_set ports s port') desk desk history number (Fail s) desk.ledger.peeks (length-set ports s port')
       (λ t source p is p_there. at_set Q ports s port' new (λ r y differ y_there other at. ties_more ports desk history asks f r other y at y_there) t p p_there source is)
       refl refl refl refl (sym (append-nil _)) none f
+
+-- an injection that made a block, and one that made none
+abbrev pub made_line : ℕ → ℕ → List ℕ → ℕ → Executed
+made_line number s block seq = record { act = record { number = number; asks = Injects }; made = record { source = s; bytes = block } ∷ []; calls = []; ends = InjectionMade s seq ∷ []; peeks = []; taken = [] }
+
+abbrev pub ended_line : ℕ → InjectionEnd → Executed
+ended_line number end = record { act = record { number = number; asks = Injects }; made = []; calls = []; ends = end ∷ []; peeks = []; taken = [] }
+
+lawful_made : (p : Plan) (number s : ℕ) (block : List ℕ) (seq : ℕ) (before : List Executed) → seq ≡ length (queue s before) + 1 → fatal_names (calls_in before) ≡ [] → ((t : ℕ) → length (faulty_calls t (calls_in before)) ≤ fails_in t before) → IsLawfulLine p before (made_line number s block seq)
+lawful_made p number s block seq before next none few = record {
+  stops = none;
+  makes = (InjectionMade s seq, refl, (block, refl, next));
+  peeks = refl;
+  calls = refl;
+  each_call = tt;
+  room = tt;
+  looks = λ c. tt;
+  faults = λ t. subst (λ cs. length (faulty_calls t cs) ≤ fails_in t before) (sym (append-nil (calls_in before))) (few t);
+  takes = refl;
+  told = tt;
+  images = tt;
+}
+
+at_end : (before : List Executed) (end : InjectionEnd) → IsWithoutBlock end → MadeAtEnd before [] end
+at_end before (InjectionMade s seq) none = absurd none
+at_end before NotAvailable none = refl
+at_end before Busy none = refl
+at_end before (Status value) none = refl
+at_end before (Trigger reason) none = refl
+at_end before NoAddress none = refl
+
+lawful_ended : (p : Plan) (number : ℕ) (end : InjectionEnd) (before : List Executed) → IsWithoutBlock end → fatal_names (calls_in before) ≡ [] → ((t : ℕ) → length (faulty_calls t (calls_in before)) ≤ fails_in t before) → IsLawfulLine p before (ended_line number end)
+lawful_ended p number end before none_made none few = record {
+  stops = none;
+  makes = (end, refl, at_end before end none_made);
+  peeks = refl;
+  calls = refl;
+  each_call = tt;
+  room = tt;
+  looks = λ c. tt;
+  faults = λ t. subst (λ cs. length (faulty_calls t cs) ≤ fails_in t before) (sym (append-nil (calls_in before))) (few t);
+  takes = refl;
+  told = tt;
+  images = tt;
+}
+
+abbrev pub with_end : InjectionEnd → DeskSeen → DeskSeen
+with_end end desk = record desk { ledger = record desk.ledger { injections = desk.ledger.injections ++ end ∷ [] } }
+
+module _ {P : Type 0} (seen : P → Seen) (faults : P → ℕ) (machine : Machine) where
+  -- after an injection that made no block
+  pub follows_ended : (ports : List P) (desk : DeskSeen) (history : List Executed) (number : ℕ) (end : InjectionEnd) → IsWithoutBlock end → desk.ledger.panic ≡ [] → Follows seen faults machine ports desk history → Follows seen faults machine ports (marked number (with_end end desk)) (ended_line number end ∷ history)
+  follows_ended ports desk history number end none_made none f =
+      let plan = plan_of machine in
+      let line = ended_line number end in
+      let same : calls_in history ++ [] ≡ calls_in history = append-nil (calls_in history) in
+      let empty = none_fatal seen faults machine ports desk history none f in
+      record {
+        as_many = f.as_many;
+        tied = λ t source p here there. tied_still seen faults machine history line t p refl refl (λ other at. f.tied t other p at there) source here;
+        account = account_still plan history line desk.pending.packets desk.ledger.panic same (append-nil (taken_in history)) (lawful_ended plan number end history none_made empty (few_of plan history f.account.lines)) f.account;
+        tells = tells_more plan history line desk.ledger _ f.tells (sym (append-nil _) ∙ ap (λ xs. desk.ledger.calls ++ xs) (sym (by_source_none plan))) (sym (append-nil _)) (sym (append-nil _)) refl (sym (append-nil _)) refl;
+        time = f.time;
+        slots = f.slots;
+        few = f.few;
+        blocks = f.blocks ∙ ap length (sym (append-nil (blocks_in history)));
+        left = left_still seen faults machine history line desk.pending.packets same f.left;
+      }
+
+  -- after an injection that made a block: what is raised for its source
+  pub follows_made : (ports : List P) (desk : DeskSeen) (history : List Executed) (number s : ℕ) (block : List ℕ) (seq : ℕ) (port port' : P) → slice_get ports s ≡ Some port → (source : Source) → slice_get machine.sources.items s ≡ Some source → seq ≡ length (seen port).made + 1 → seen port' ≡ raised block (seen port) → faults port' ≡ faults port → desk.ledger.panic ≡ [] → Follows seen faults machine ports desk history → Follows seen faults machine (slice_set ports s port') (marked number (with_end (InjectionMade s seq) (record desk { blocks = desk.blocks + 1 }))) (made_line number s block seq ∷ history)
+  follows_made ports desk history number s block seq port port' at source source_at next has counts none f =
+      let plan = plan_of machine in
+      let line = made_line number s block seq in
+      let same : calls_in history ++ [] ≡ calls_in history = append-nil (calls_in history) in
+      let empty = none_fatal seen faults machine ports desk history none f in
+      let raise = follows_raise seen faults machine ports desk history number s block port port' at has counts none f in
+      let following : seq ≡ length (queue s history) + 1 = next ∙ ap (λ xs. length xs + 1) (f.tied s source port source_at at).made_is in
+      record {
+        as_many = raise.as_many;
+        tied = raise.tied;
+        account = account_still plan history line desk.pending.packets desk.ledger.panic same (append-nil (taken_in history)) (lawful_made plan number s block seq history following empty (few_of plan history f.account.lines)) f.account;
+        tells = tells_more plan history line desk.ledger _ f.tells (sym (append-nil _) ∙ ap (λ xs. desk.ledger.calls ++ xs) (sym (by_source_none plan))) (sym (append-nil _)) (sym (append-nil _)) refl (sym (append-nil _)) refl;
+        time = f.time;
+        slots = f.slots;
+        few = f.few;
+        blocks = raise.blocks;
+        left = left_still seen faults machine history line desk.pending.packets same f.left;
+      }

@@ -1,6 +1,8 @@
 mod AnswerLemmas
+mod ExecLemmas
 mod FollowsLemmas
 mod FoundLemmas
+mod LedLemmas
 mod LineLemmas
 mod NmiFollows
 mod NmiLemmas

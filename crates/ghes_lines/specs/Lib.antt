@@ -2,6 +2,7 @@ pub mod Call
 pub mod Desk
 pub mod Follows
 pub mod Found
+pub mod Injector
 pub mod Lines
 pub mod Machine
 pub mod Pending

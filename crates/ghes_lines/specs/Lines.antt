@@ -1,5 +1,5 @@
 -- What the lines of a script ask for, what they may ask for, and how a replay goes on by one.
-use Rattle.std.specs.Prelude.{◌≡◌, ◌<◌, ℕ, List, [], ◌∷◌, length, slice_get, slice_set, Option, Some, None, is_some, IsTrue, Result}
+use Rattle.std.specs.Prelude.{◌≡◌, ◌<◌, ◌≤◌, ℕ, List, [], ◌∷◌, length, slice_get, slice_set, Some}
 use Rattle.apei_base.specs.Firmware.{Seen, IsRaised}
 use Rattle.ghes_ledger.specs.Asks.{Setting, Clock, Fail, Peek, Asks, Quiet, Makes, Injects, Calls, Runs, Drains}
 use Rattle.ghes_ledger.specs.History.{Act, Executed}
@@ -8,7 +8,8 @@ use Rattle.ghes_script.specs.declared.line.What.{What}
 use Rattle.ghes_script.specs.declared.line.What.TheVariants as asks
 use Rattle.ghes_lines.specs.Desk.{DeskSeen}
 use Rattle.ghes_lines.specs.Follows.{Follows}
-use Rattle.ghes_lines.specs.Machine.{rule_of}
+use Rattle.ghes_lines.specs.declared.error.Stop.{Stop}
+use Rattle.ghes_lines.specs.declared.error.Stop.TheVariants.{Full, OutOfMemory}
 use Rattle.ghes_lines.specs.declared.machine.Machine.{Machine}
 
 -- what a line asks for; settings are told in the plan
@@ -34,15 +35,11 @@ asks_of (asks.Fail source n) = Quiet (Fail source)
 abbrev pub act_of : Line → Act
 act_of line = record { number = line.number; asks = asks_of line.what }
 
--- a source has a read ack register
-abbrev pub HasAck : Machine → ℕ → Type 0
-HasAck machine s = IsTrue (is_some (rule_of (slice_get machine.sources.items s)))
-
--- what a line may ask of a machine: its sources are there, a block has a header and a status, and a cell that is looked at is there
+-- what a line may ask of a machine: its sources are there, a block has a header and a status
 abbrev pub IsAllowed : Machine → What → Type 0
 IsAllowed machine (asks.Raise source block) = (source < length machine.sources.items) × IsRaised block
 IsAllowed machine (asks.Nmi source) = source < length machine.sources.items
-IsAllowed machine (asks.Peek source) = (source < length machine.sources.items) × HasAck machine source
+IsAllowed machine (asks.Peek source) = source < length machine.sources.items
 IsAllowed machine (asks.Fail source n) = source < length machine.sources.items
 IsAllowed machine _ = Unit {0}
 
@@ -69,3 +66,14 @@ pub record GoesOn {P : Type 0} (seen : P → Seen) (faults : P → ℕ) (machine
 abbrev pub Executes : {P : Type 0} → (P → Seen) → (P → ℕ) → Machine → Act → List P → DeskSeen → List P → DeskSeen → Type 0
 Executes seen faults machine act ports desk ports' desk' =
     (before : List Executed) → Follows seen faults machine ports desk before → GoesOn seen faults machine act ports' desk' before
+
+-- a line makes a block, or may make one
+abbrev pub MakesBlock : What → Type 0
+MakesBlock (asks.Raise source block) = Unit {0}
+MakesBlock (asks.Inject request) = Unit {0}
+MakesBlock _ = ⊥
+
+-- A line was not executed: memory ran out, or it makes a block, and so many were made before that the machine may have no more.
+abbrev pub IsStopAt : Line → ℕ → Stop → Type 0
+IsStopAt line blocks (Full number) = (number ≡ line.number) × MakesBlock line.what × (65536 ≤ blocks)
+IsStopAt line blocks OutOfMemory = Unit {0}

@@ -10,7 +10,7 @@ use crate::machine::Source;
 use crate::pending::Pending;
 use crate::port::Port;
 use ghes_call::{Buffer, Call, Packet};
-use ghes_ledger::Ledger;
+use ghes_ledger::{InjectionEnd, Ledger};
 use ghes_steps::Steps;
 use std::alloc::{AllocError, Global};
 use std::marker::Model;
@@ -185,5 +185,13 @@ impl Desk {
             ≡ record self.old { ledger = record self.old.ledger { peeks = self.old.ledger.peeks ++ cell ∷ [] } }) }
     {
         self.ledger.enter_peek(cell)
+    }
+
+    /// Enters how an injection ended.
+    pub(crate) fn end_injection(&mut self, end: InjectionEnd) -> Result<(), AllocError>
+        ensures { OnOk result (self.new
+            ≡ record self.old { ledger = record self.old.ledger { injections = self.old.ledger.injections ++ end ∷ [] } }) }
+    {
+        self.ledger.enter_injection(end)
     }
 }

@@ -5,7 +5,10 @@
 mod calling;
 mod desk;
 mod error;
+mod execution;
+mod executing;
 mod finding;
+mod injector;
 mod lines;
 mod machine;
 mod pending;
@@ -13,6 +16,8 @@ mod port;
 
 pub use desk::Desk;
 pub use error::Stop;
+pub use execution::execute;
+pub use injector::{Injected, Injector};
 pub use machine::{Machine, Source};
 pub use pending::Pending;
 pub use port::Port;

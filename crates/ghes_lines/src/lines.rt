@@ -1,5 +1,5 @@
 //! What each line does.
-ghost use Rattle.std.specs.Prelude.{◌≡◌, ◌<◌, ◌≤◌, ◌+◌, ◌-◌, ◌^◌, [], length, slice_get, Some, OnOk};
+ghost use Rattle.std.specs.Prelude.{◌≡◌, ◌<◌, ◌≤◌, ◌+◌, ◌-◌, ◌^◌, [], length, slice_get, unwrap_or, Some, OnOk};
 ghost use Rattle.apei_base.specs.Firmware.{IsRaised};
 ghost use Rattle.ghes_call.specs.Receive.{IsOfSource};
 ghost use Rattle.ghes_nmi.specs.Receive.{receive_seen};
@@ -37,6 +37,23 @@ pub(crate) fn fail_at<P: Port>(ports: &mut [P], at: usize, number: u64) -> Resul
         IsPlanned (P.seen before) (P.seen after) × (P.faults after ≡ P.faults before))) }
 {
     ports[at].fail(number)
+}
+
+/// How many blocks firmware has raised for the source at a position.
+pub(crate) fn raised_at<P: Port>(ports: &[P], at: usize) -> u32
+    requires { at < length ports.now }
+    ensures value { (port : P) → slice_get ports.now at ≡ Some port → result ≡ length (P.seen port).made }
+    ensures few { result < 2 ^ 32 - 1 }
+{
+    ports[at].raised()
+}
+
+/// What the read ack register of the source at a position holds, and 0 where there is none.
+pub(crate) fn cell_at<P: Port>(ports: &[P], at: usize) -> u64
+    requires { at < length ports.now }
+    ensures { (port : P) → slice_get ports.now at ≡ Some port → result ≡ unwrap_or (ack_cell_of (P.seen port)) 0 }
+{
+    ports[at].ack_cell().unwrap_or(0)
 }
 
 /// One call on the source at a position.

@@ -36,7 +36,8 @@ pub trait Port: Firmware {
 
     /// How many blocks firmware has raised.
     fn raised(&self) -> u32
-        ensures { result ≡ length (Self.seen self.now).made };
+        ensures value { result ≡ length (Self.seen self.now).made }
+        ensures few { result < 2 ^ 32 - 1 };
 
     /// How many of them are acknowledged.
     fn acknowledged(&self) -> u32

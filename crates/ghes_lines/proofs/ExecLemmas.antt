@@ -1,0 +1,30 @@
+-- A replay goes on by a line, told what the line did.
+use Rattle.std.proofs.Common.{◌≡◌, ℕ, List, [], ◌∷◌, refl, sym, ap, subst, ◌∙◌, Option, Some, None, unwrap_or}
+use Rattle.std.specs.Prelude.{Result, Ok, Err, OnOk, slice_set}
+use Rattle.apei_base.specs.Bus.{Reach}
+use Rattle.apei_base.specs.Firmware.{Seen, FitsAck}
+use Rattle.ghes_ledger.specs.History.{Act, Executed}
+use Rattle.ghes_lines.specs.Desk.{DeskSeen}
+use Rattle.ghes_lines.specs.Follows.{Follows}
+use Rattle.ghes_lines.specs.Lines.{GoesOn}
+use Rattle.ghes_lines.specs.Port.{cell_of}
+use Rattle.ghes_lines.specs.declared.machine.Machine.{Machine}
+
+-- what follows where a call succeeds
+pub on_ok : {T E : Type 0} (A B : Type 0) (result : Result T E) → (A → B) → OnOk result A → OnOk result B
+on_ok A B (Ok value) more holds = more holds
+on_ok A B (Err error) more holds = holds
+
+-- a read ack register that is not there holds 0
+pub cell_told : (register : Option Reach) (cell : ℕ) → FitsAck register cell → unwrap_or (cell_of register cell) 0 ≡ cell
+cell_told None cell fits = sym fits
+cell_told (Some register) cell fits = refl
+
+module _ {P : Type 0} (seen : P → Seen) (faults : P → ℕ) (machine : Machine) where
+  -- where the memories are as they were
+  pub goes_on : (act : Act) (ports : List P) (desk target : DeskSeen) (before : List Executed) (line : Executed) → line.act ≡ act → desk ≡ target → Follows seen faults machine ports target (line ∷ before) → GoesOn seen faults machine act ports desk before
+  goes_on act ports desk target before line which is f = record { line = line; act_is = which; follows = subst (λ d. Follows seen faults machine ports d (line ∷ before)) (sym is) f }
+
+  -- where that of one source changed
+  pub goes_at : (act : Act) (ports changed : List P) (desk target : DeskSeen) (before : List Executed) (line : Executed) → line.act ≡ act → ports ≡ changed → desk ≡ target → Follows seen faults machine changed target (line ∷ before) → GoesOn seen faults machine act ports desk before
+  goes_at act ports changed desk target before line which same is f = record { line = line; act_is = which; follows = subst (λ ps. Follows seen faults machine ps desk (line ∷ before)) (sym same) (subst (λ d. Follows seen faults machine changed d (line ∷ before)) (sym is) f) }

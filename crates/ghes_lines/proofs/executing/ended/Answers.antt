@@ -1,0 +1,16 @@
+use Rattle.std.proofs.Common.{refl, ap, ◌∙◌}
+use Rattle.ghes_lines.specs.Desk.{marked}
+use Rattle.ghes_lines.proofs.ExecLemmas.{on_ok, goes_on}
+use Rattle.ghes_lines.proofs.FollowsLemmas.{follows_ended}
+use Rattle.ghes_lines.proofs.executing.ended.Goals as goal
+
+pub returns : goal.returns
+returns g c =
+    let seen = g.P.Firmware.seen in
+    let faults = g.P.Bus.faults in
+    let machine = c.args.machine.now in
+    let desk = c.args.desk.now in
+    on_ok _ _ c.mark.result
+    (λ is before f. goes_on seen faults machine _ c.args.ports.now _ _ before _ refl (is ∙ ap (marked c.args.number) c.in_ok-end_injection.ensures)
+        (follows_ended seen faults machine c.args.ports.now desk before c.args.number c.args.end c.requires.none c.requires.running f))
+    c.mark.ensures

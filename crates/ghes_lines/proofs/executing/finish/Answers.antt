@@ -1,0 +1,16 @@
+use Rattle.std.proofs.Common.{refl, ap, ◌∙◌}
+use Rattle.ghes_ledger.specs.History.{Act}
+use Rattle.ghes_lines.specs.Desk.{marked}
+use Rattle.ghes_lines.proofs.ExecLemmas.{on_ok, goes_on}
+use Rattle.ghes_lines.proofs.FollowsLemmas.{follows_end}
+use Rattle.ghes_lines.proofs.executing.finish.Goals as goal
+
+pub returns : goal.returns
+returns g c =
+    let seen = g.P.Firmware.seen in
+    let faults = g.P.Bus.faults in
+    let machine = c.args.machine.now in
+    let desk = c.args.desk.now in
+    on_ok _ _ c.mark.result
+    (λ is before f. goes_on seen faults machine _ c.args.ports.now _ _ before _ refl (is ∙ ap (marked 0) c.in_ok-work.ensures) (follows_end seen faults machine c.args.ports.now desk before f))
+    c.mark.ensures
