@@ -1,8 +1,6 @@
 // Sections by their bytes.
+mod fields;
 mod kinds;
-mod memory;
-mod pcie;
-mod processor;
 
 const MEMORY: &str = "a5bc1114-6f64-4ede-b863-3e83ed7c83b1";
 
