@@ -4,3 +4,4 @@ mod BlockLemmas
 mod FieldLemmas
 mod GuidLemmas
 mod MachineLemmas
+mod OutcomeLemmas

@@ -24,7 +24,10 @@ pub use block::injected_block;
 pub use board::{Asked, Board};
 pub use class::Class;
 pub use injection::Injection;
-pub use laws::{an_injected_block_has_the_severity_of_its_type, an_injected_block_is_well_formed};
+pub use laws::{
+    an_access_of_the_machine_has_one_outcome, an_injected_block_has_the_severity_of_its_type,
+    an_injected_block_is_well_formed,
+};
 pub use port::{EinjPort, Made};
 pub use register::Register;
 pub use setup::Setup;
