@@ -3,7 +3,8 @@
 //! Five words. First whether the blocks were reported before: `told` or `new`. Then whether each context calls in a thread of its
 //! own, beside the decoder in another: `threads`, or `alone` for one thread, where a packet is taken behind each call. Then how many
 //! contexts there are, 1 to 4, how many blocks each source raises, and how many calls each context makes. The answer is whether each
-//! block that was acknowledged was taken once and in order, or, where it was told before, not at all.
+//! block that was acknowledged was taken once and in order, or, where it was told before, not at all. With `steps` in the first place
+//! the steps of a call in firmware memory are made so often besides, without what contexts share.
 #![tactic(auto)]
 
 ghost use Rattle.std.specs.Prelude.{◌≤◌, ◌<◌, ◌-◌, ◌^◌, length};
@@ -13,11 +14,13 @@ mod caller;
 mod port;
 mod running;
 mod setting;
+mod steps;
 mod taking;
 
 use crate::caller::Caller;
 use crate::running::{alone, in_threads};
 use crate::setting::{LIMIT, SLOTS, block, caller};
+use crate::steps::steps_alone;
 use crate::taking::Taken;
 use ghes_rule::{Pass, Shared};
 use ghes_throttle::{ThrottleReader, throttle};
@@ -84,6 +87,9 @@ fn main(rt: HostRuntime) -> io::Result<()> {
     let contexts = number(&rt, 3, 4);
     let blocks = number(&rt, 4, 1_000_000);
     let calls = number(&rt, 5, 1_000_000);
+    if word(&rt, 1).as_str() == "steps" {
+        steps_alone(rt.alloc(), calls)?;
+    }
     let (shared, work, passes) = Shared::build(rt.alloc(), SLOTS, LIMIT, 4)?;
     let (mut writer, readers) = throttle(&rt, rt.alloc(), LIMIT, 4)?;
     if told {

@@ -39,7 +39,7 @@ pub fn block() -> [u8; LONG]
 
 // So many blocks.
 #[tactic(auto, using(crate::proofs::PortLemmas::raised_push))]
-fn blocks(alloc: Global, count: usize) -> Result<Vec<Bytes>, AllocError>
+pub(crate) fn blocks(alloc: Global, count: usize) -> Result<Vec<Bytes>, AllocError>
     ensures raised { IfOk result (λ made. AllByRecursion IsRaised made.items) }
     ensures count { IfOk result (λ made. length made.items ≡ count) }
 {
@@ -51,7 +51,7 @@ fn blocks(alloc: Global, count: usize) -> Result<Vec<Bytes>, AllocError>
 }
 
 // The memory of a source with a read ack register that is to raise these blocks.
-fn port(made: Vec<Bytes>) -> Port
+pub(crate) fn port(made: Vec<Bytes>) -> Port
     requires raised { AllByRecursion IsRaised made.items }
     requires few { length made.items < 2 ^ 32 - 1 }
     ensures { (result.inner.room ≡ 4096) × (result.inner.acknowledged ≡ 0) }
@@ -71,7 +71,7 @@ fn port(made: Vec<Bytes>) -> Port
 }
 
 // How such a source is received.
-fn received(source: &OneSource) -> Receive
+pub(crate) fn received(source: &OneSource) -> Receive
     requires { source.now.room ≡ 4096 }
     ensures source { IsOfSource (receive_seen result) (⟦<OneSource as Firmware>⟧.seen source.now).layout }
     ensures limit { result.limit ≡ 4096 }
