@@ -7,4 +7,5 @@ mod LineLemmas
 mod NmiFollows
 mod NmiLemmas
 mod OutcomeLemmas
+mod RunningLemmas
 mod TiedLemmas

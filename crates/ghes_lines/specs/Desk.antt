@@ -6,7 +6,7 @@ use Rattle.ghes_call.specs.Packet.{PacketSeen}
 use Rattle.ghes_call.specs.Receive.{ReceiveSeen}
 use Rattle.ghes_call.specs.declared.call.Call.{Call}
 use Rattle.ghes_call.specs.declared.call.Reply.{Reply}
-use Rattle.ghes_ledger.specs.Kept.{Kept, with_taken, panic_entry, mark_of}
+use Rattle.ghes_ledger.specs.Kept.{Kept, nothing_kept, with_taken, panic_entry, mark_of}
 use Rattle.ghes_ledger.specs.Reports.{hit}
 use Rattle.ghes_ledger.specs.declared.ledger.PanicEntry.{PanicEntry}
 use Rattle.ghes_lines.specs.Call.{left_by, ack_by, saw_by, CountsCall, standing_packet, queued_by, fatal_by}
@@ -20,6 +20,10 @@ pub record DeskSeen : Type 0 where
   pub clock : ℕ
   pub blocks : ℕ
   pub block_len : ℕ
+
+-- nothing is pending, and nothing was entered
+abbrev pub new_desk : ℕ → ℕ → DeskSeen
+new_desk slots block_len = record { pending = record { packets = []; slots = slots }; ledger = nothing_kept; clock = 0; blocks = 0; block_len = block_len }
 
 -- the ledger after these packets were taken at a time, each told by a look at the reports before it
 abbrev pub drained : ℕ → List PacketSeen → Kept → Kept

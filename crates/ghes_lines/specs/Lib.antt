@@ -7,3 +7,4 @@ pub mod Lines
 pub mod Machine
 pub mod Pending
 pub mod Port
+pub mod Run

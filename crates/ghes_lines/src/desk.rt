@@ -3,7 +3,7 @@ ghost use Rattle.std.specs.Prelude.{◌≡◌, ◌≤◌, ◌<◌, ◌+◌, ◌=
 ghost use Rattle.ghes_call.specs.Packet.{seen_of};
 ghost use Rattle.ghes_call.specs.Receive.{IsOfSource};
 ghost use Rattle.ghes_nmi.specs.Receive.{receive_seen};
-ghost use Rattle.ghes_lines.specs.Desk.{drained, panicked, worked, panicked_by, marked, IsAnswered, IsNmi};
+ghost use Rattle.ghes_lines.specs.Desk.{new_desk, drained, panicked, worked, panicked_by, marked, IsAnswered, IsNmi};
 
 use crate::calling::{Answer, Ask, call, look};
 use crate::machine::Source;
@@ -72,6 +72,27 @@ fn panic_rest(alloc: Global, packets: &[Packet], ledger: &mut Ledger) -> Result<
 }
 
 impl Desk {
+    /// Nothing is pending, and nothing was entered. So many packets may be pending, and a block has at most so many bytes.
+    pub(crate) fn new(alloc: Global, slots: usize, block_len: usize) -> Result<Desk, AllocError>
+        ensures { IfOk result (λ desk. desk ≡ new_desk slots block_len) }
+    {
+        Ok(Desk {
+            pending: Pending::new(alloc, slots)?,
+            ledger: Ledger::new(alloc),
+            clock: 0,
+            blocks: 0,
+            block_len,
+            image: Buffer::with_room(alloc, block_len)?,
+        })
+    }
+
+    /// The ledger.
+    pub(crate) fn into_ledger(self) -> Ledger
+        ensures { result ≡ self.ledger }
+    {
+        self.ledger
+    }
+
     /// Takes all that is pending.
     pub(crate) fn work(&mut self, alloc: Global) -> Result<(), AllocError>
         ensures { OnOk result (self.new ≡ worked self.old) }
@@ -83,7 +104,8 @@ impl Desk {
 
     // Enters all that is pending in the panic list, and a fatal packet behind it.
     fn panic(&mut self, alloc: Global, packet: &Packet) -> Result<(), AllocError>
-        ensures { OnOk result (self.new ≡ panicked_by (Some (seen_of packet.now)) self.old) }
+        ensures ok { OnOk result (self.new ≡ panicked_by (Some (seen_of packet.now)) self.old) }
+        ensures room { self.new.block_len ≡ self.old.block_len }
     {
         panic_rest(alloc, self.pending.packets(), &mut self.ledger)?;
         self.pending.clear();
@@ -102,8 +124,9 @@ impl Desk {
         requires source { IsOfSource (receive_seen source.now.receive) (P.seen port.old).layout }
         requires header { 20 ≤ source.now.receive.limit }
         requires limit { source.now.receive.limit ≤ self.old.block_len }
-        ensures { IfOk result (λ answer. IsAnswered (receive_seen source.now.receive) at (P.seen port.old) (P.seen port.new)
+        ensures ok { IfOk result (λ answer. IsAnswered (receive_seen source.now.receive) at (P.seen port.old) (P.seen port.new)
             (P.faults port.old) (P.faults port.new) self.old self.new answer.reply (option_map seen_of answer.fatal)) }
+        ensures room { self.new.block_len ≡ self.old.block_len }
     {
         let ask = Ask {
             receive: &source.receive,
@@ -127,8 +150,9 @@ impl Desk {
         requires source { IsOfSource (receive_seen source.now.receive) (P.seen port.old).layout }
         requires header { 20 ≤ source.now.receive.limit }
         requires limit { source.now.receive.limit ≤ self.old.block_len }
-        ensures { OnOk result (IsNmi (receive_seen source.now.receive) source.now.server at (P.seen port.old) (P.seen port.new)
+        ensures ok { OnOk result (IsNmi (receive_seen source.now.receive) source.now.server at (P.seen port.old) (P.seen port.new)
             (P.faults port.old) (P.faults port.new) self.old self.new) }
+        ensures room { self.new.block_len ≡ self.old.block_len }
     {
         let Answer { reply, fatal } = self.call(alloc, source, at, port, steps)?;
         self.ledger.enter_call(Call {

@@ -32,7 +32,8 @@ pub(crate) fn raise<P: Port>(
     requires room { desk.old.blocks < 65536 }
     requires running { desk.old.ledger.panic ≡ [] }
     requires led { IsLed P.seen P.faults machine.now ports.old desk.old }
-    ensures { OnOk result (Executes P.seen P.faults machine.now (record { number = number; asks = Makes at block.now }) ports.old desk.old ports.new desk.new) }
+    ensures ok { OnOk result (Executes P.seen P.faults machine.now (record { number = number; asks = Makes at block.now }) ports.old desk.old ports.new desk.new) }
+    ensures block_len { OnOk result (desk.new.block_len ≡ desk.old.block_len) }
 {
     raise_at(ports, at, block)?;
     desk.count();
@@ -47,7 +48,8 @@ pub(crate) fn setting<P: Port>(
     number: u32,
 ) -> Result<(), AllocError>
     requires running { desk.old.ledger.panic ≡ [] }
-    ensures { OnOk result (Executes P.seen P.faults machine.now (record { number = number; asks = Quiet Setting }) ports.old desk.old ports.new desk.new) }
+    ensures ok { OnOk result (Executes P.seen P.faults machine.now (record { number = number; asks = Quiet Setting }) ports.old desk.old ports.new desk.new) }
+    ensures block_len { OnOk result (desk.new.block_len ≡ desk.old.block_len) }
 {
     desk.mark(number)
 }
@@ -61,7 +63,8 @@ pub(crate) fn clock<P: Port>(
     time: u64,
 ) -> Result<(), AllocError>
     requires running { desk.old.ledger.panic ≡ [] }
-    ensures { OnOk result (Executes P.seen P.faults machine.now (record { number = number; asks = Quiet (Clock time) }) ports.old desk.old ports.new desk.new) }
+    ensures ok { OnOk result (Executes P.seen P.faults machine.now (record { number = number; asks = Quiet (Clock time) }) ports.old desk.old ports.new desk.new) }
+    ensures block_len { OnOk result (desk.new.block_len ≡ desk.old.block_len) }
 {
     desk.set_clock(time);
     desk.mark(number)
@@ -79,7 +82,8 @@ pub(crate) fn fail<P: Port>(
     requires within { at < length machine.now.sources.items }
     requires running { desk.old.ledger.panic ≡ [] }
     requires led { IsLed P.seen P.faults machine.now ports.old desk.old }
-    ensures { OnOk result (Executes P.seen P.faults machine.now (record { number = number; asks = Quiet (Fail at) }) ports.old desk.old ports.new desk.new) }
+    ensures ok { OnOk result (Executes P.seen P.faults machine.now (record { number = number; asks = Quiet (Fail at) }) ports.old desk.old ports.new desk.new) }
+    ensures block_len { OnOk result (desk.new.block_len ≡ desk.old.block_len) }
 {
     fail_at(ports, at, access)?;
     desk.mark(number)
@@ -96,7 +100,8 @@ pub(crate) fn peek<P: Port>(
     requires within { at < length machine.now.sources.items }
     requires running { desk.old.ledger.panic ≡ [] }
     requires led { IsLed P.seen P.faults machine.now ports.old desk.old }
-    ensures { OnOk result (Executes P.seen P.faults machine.now (record { number = number; asks = Quiet (Peek at) }) ports.old desk.old ports.new desk.new) }
+    ensures ok { OnOk result (Executes P.seen P.faults machine.now (record { number = number; asks = Quiet (Peek at) }) ports.old desk.old ports.new desk.new) }
+    ensures block_len { OnOk result (desk.new.block_len ≡ desk.old.block_len) }
 {
     desk.peek(cell_at(ports, at))?;
     desk.mark(number)
@@ -116,7 +121,8 @@ pub(crate) fn nmi<P: Port, L: ledger::Ledger>(
     requires machine { IsMachine desk.old.block_len machine.now }
     requires running { desk.old.ledger.panic ≡ [] }
     requires led { IsLed P.seen P.faults machine.now ports.old desk.old }
-    ensures { OnOk result (Executes P.seen P.faults machine.now (record { number = number; asks = Calls at }) ports.old desk.old ports.new desk.new) }
+    ensures ok { OnOk result (Executes P.seen P.faults machine.now (record { number = number; asks = Calls at }) ports.old desk.old ports.new desk.new) }
+    ensures block_len { OnOk result (desk.new.block_len ≡ desk.old.block_len) }
 {
     let source = machine.sources[at];
     nmi_at(alloc, &source, at as u16, ports, desk, steps)?;
@@ -132,7 +138,8 @@ pub(crate) fn work<P: Port>(
     number: u32,
 ) -> Result<(), AllocError>
     requires running { desk.old.ledger.panic ≡ [] }
-    ensures { OnOk result (Executes P.seen P.faults machine.now (record { number = number; asks = Drains }) ports.old desk.old ports.new desk.new) }
+    ensures ok { OnOk result (Executes P.seen P.faults machine.now (record { number = number; asks = Drains }) ports.old desk.old ports.new desk.new) }
+    ensures block_len { OnOk result (desk.new.block_len ≡ desk.old.block_len) }
 {
     desk.work(alloc)?;
     desk.mark(number)
@@ -145,7 +152,9 @@ pub(crate) fn finish<P: Port>(
     ports: &mut [P],
     desk: &mut Desk,
 ) -> Result<(), AllocError>
-    ensures { OnOk result (Executes P.seen P.faults machine.now script_end ports.old desk.old ports.new desk.new) }
+    ensures ok { OnOk result (Executes P.seen P.faults machine.now script_end ports.old desk.old ports.new desk.new) }
+    ensures block_len { OnOk result (desk.new.block_len ≡ desk.old.block_len) }
+    ensures empty { OnOk result (desk.new.pending.packets ≡ []) }
 {
     desk.work(alloc)?;
     desk.mark(0)
@@ -176,7 +185,8 @@ pub(crate) fn injected<P: Port>(
     requires room { desk.old.blocks < 65536 }
     requires running { desk.old.ledger.panic ≡ [] }
     requires led { IsLed P.seen P.faults machine.now ports.old desk.old }
-    ensures { OnOk result (Executes P.seen P.faults machine.now (record { number = number; asks = Injects }) ports.old desk.old ports.new desk.new) }
+    ensures ok { OnOk result (Executes P.seen P.faults machine.now (record { number = number; asks = Injects }) ports.old desk.old ports.new desk.new) }
+    ensures block_len { OnOk result (desk.new.block_len ≡ desk.old.block_len) }
 {
     let at = usize::from(source);
     let seq = raised_at(ports, at) + 1;
@@ -196,7 +206,8 @@ pub(crate) fn ended<P: Port>(
 ) -> Result<(), AllocError>
     requires none { IsWithoutBlock end }
     requires running { desk.old.ledger.panic ≡ [] }
-    ensures { OnOk result (Executes P.seen P.faults machine.now (record { number = number; asks = Injects }) ports.old desk.old ports.new desk.new) }
+    ensures ok { OnOk result (Executes P.seen P.faults machine.now (record { number = number; asks = Injects }) ports.old desk.old ports.new desk.new) }
+    ensures block_len { OnOk result (desk.new.block_len ≡ desk.old.block_len) }
 {
     desk.end_injection(end)?;
     desk.mark(number)

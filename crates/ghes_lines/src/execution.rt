@@ -32,6 +32,7 @@ pub fn execute<P: Port, I: Injector, L: ledger::Ledger>(
     ensures ok { OnOk result (Executes P.seen P.faults machine.now (act_of line.now) ports.old desk.old ports.new desk.new) }
     ensures full { IfErr result (IsStopAt line.now desk.old.blocks) }
     ensures injects { I.sources injector.new ≡ I.sources injector.old }
+    ensures block_len { OnOk result (desk.new.block_len ≡ desk.old.block_len) }
 {
     let number = line.number;
     match &line.what {

@@ -13,6 +13,7 @@ mod lines;
 mod machine;
 mod pending;
 mod port;
+mod run;
 
 pub use desk::Desk;
 pub use error::Stop;
@@ -21,3 +22,4 @@ pub use injector::{Injected, Injector};
 pub use machine::{Machine, Source};
 pub use pending::Pending;
 pub use port::Port;
+pub use run::run_lines;

@@ -69,9 +69,10 @@ pub(crate) fn nmi_at<P: Port, L: ledger::Ledger>(
     requires source { (port : P) → slice_get ports.old at ≡ Some port → IsOfSource (receive_seen source.now.receive) (P.seen port).layout }
     requires header { 20 ≤ source.now.receive.limit }
     requires limit { source.now.receive.limit ≤ desk.old.block_len }
-    ensures { OnOk result (IsAt at ports.old ports.new (λ before after.
+    ensures ok { OnOk result (IsAt at ports.old ports.new (λ before after.
         IsNmi (receive_seen source.now.receive) source.now.server at (P.seen before) (P.seen after)
         (P.faults before) (P.faults after) desk.old desk.new)) }
+    ensures room { desk.new.block_len ≡ desk.old.block_len }
 {
     desk.nmi(alloc, source, at, &mut ports[usize::from(at)], steps)
 }

@@ -5,8 +5,8 @@ use Rattle.ghes_lines.proofs.ExecLemmas.{on_ok, goes_at}
 use Rattle.ghes_lines.proofs.FollowsLemmas.{follows_fail}
 use Rattle.ghes_lines.proofs.executing.fail.Goals as goal
 
-pub returns : goal.returns
-returns g c =
+pub returns-clause-ok : goal.returns-clause-ok
+returns-clause-ok g c =
     let seen = g.P.Firmware.seen in
     let faults = g.P.Bus.faults in
     let machine = c.args.machine.now in

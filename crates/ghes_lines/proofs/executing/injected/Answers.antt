@@ -10,8 +10,8 @@ pub raise_at-requires-clause-few : goal.raise_at-requires-clause-few
 raise_at-requires-clause-few g c = λ port there.
     room (g.P.Firmware.seen) (g.P.Bus.faults) c.args.machine.now c.args.ports.now c.args.desk.now c.requires.led.history c.requires.led.follows c.from-at.result port (subst (λ n. n < length c.args.machine.now.sources.items) (sym c.from-at.ensures) c.requires.within) c.requires.room there
 
-pub returns : goal.returns
-returns g c =
+pub returns-clause-ok : goal.returns-clause-ok
+returns-clause-ok g c =
     let seen = g.P.Firmware.seen in
     let faults = g.P.Bus.faults in
     let machine = c.args.machine.now in

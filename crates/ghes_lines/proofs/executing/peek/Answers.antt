@@ -6,8 +6,8 @@ use Rattle.ghes_lines.proofs.FollowsLemmas.{follows_peek}
 use Rattle.ghes_lines.proofs.LedLemmas.{there_is, within}
 use Rattle.ghes_lines.proofs.executing.peek.Goals as goal
 
-pub returns : goal.returns
-returns g c =
+pub returns-clause-ok : goal.returns-clause-ok
+returns-clause-ok g c =
     let seen = g.P.Firmware.seen in
     let faults = g.P.Bus.faults in
     let machine = c.args.machine.now in

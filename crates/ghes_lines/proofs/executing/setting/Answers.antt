@@ -5,8 +5,8 @@ use Rattle.ghes_lines.proofs.ExecLemmas.{on_ok, goes_on}
 use Rattle.ghes_lines.proofs.FollowsLemmas.{follows_setting}
 use Rattle.ghes_lines.proofs.executing.setting.Goals as goal
 
-pub returns : goal.returns
-returns g c =
+pub returns-clause-ok : goal.returns-clause-ok
+returns-clause-ok g c =
     let seen = g.P.Firmware.seen in
     let faults = g.P.Bus.faults in
     let machine = c.args.machine.now in
