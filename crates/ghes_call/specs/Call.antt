@@ -1,5 +1,5 @@
 -- What one call of the receive path is: by what it saw, what it answers and what it leaves of the source's memory.
-use Rattle.std.specs.Prelude.{◌≡◌, ◌⊎◌, ℕ, ◌+◌, Bool, true, false, ◌||◌, if◌then◌else◌, List, Option, Some, None, is_some}
+use Rattle.std.specs.Prelude.{◌≡◌, ℕ, Bool, true, false, if◌then◌else◌, List, Option, Some, None}
 use Rattle.apei_base.specs.Firmware.{Seen, standing, standing_number, cleared, ack_written}
 use Rattle.cper_block.specs.Image.{image_of, image_reason, is_fatal}
 use Rattle.cper_block.specs.declared.malformed.Malformed.{Malformed as Reason}

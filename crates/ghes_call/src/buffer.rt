@@ -1,8 +1,11 @@
 //! Memory for the bytes of an image, made before it is needed.
-ghost use Rattle.std.specs.Prelude.{◌≡◌, ◌≤◌, [], length, IfOk};
+ghost use Rattle.std.specs.Prelude.{◌≡◌, ◌≤◌, ◌+◌, [], length, IfOk};
 
 use std::alloc::{AllocError, Global};
 use std::marker::Model;
+
+// The zeros that make a buffer longer, a piece at a time.
+const ZEROS: [u8; 128] = [0; 128];
 
 /// Bytes in memory that was made before. A contract sees the bytes, and how many there is room for.
 ///
@@ -55,15 +58,29 @@ impl Buffer {
         }
     }
 
+    // Adds so many zeros.
+    fn add_zeros(&mut self, count: usize)
+        requires piece { count ≤ 128 }
+        requires room { length self.old.bytes + count ≤ self.old.room }
+        ensures length { length self.new.bytes ≡ length self.old.bytes + count }
+        ensures room { self.old.room ≤ self.new.room }
+    {
+        // It cannot fail below the room.
+        if self.0.extend_from_slice(ZEROS.split_at(count).0).is_err() {
+            self.0.clear();
+        }
+    }
+
     /// Makes it so many bytes long. No memory is taken.
     pub fn set_len(&mut self, count: usize)
         requires { count ≤ self.old.room }
         ensures length { length self.new.bytes ≡ count }
         ensures room { self.old.room ≤ self.new.room }
     {
-        // It cannot fail below the room.
-        if self.0.resize_with(count, || 0).is_err() {
-            self.0.clear();
+        self.0.truncate(count);
+        while self.0.len() < count {
+            let more = (count - self.0.len()).min(ZEROS.len());
+            self.add_zeros(more);
         }
     }
 }
