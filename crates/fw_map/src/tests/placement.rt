@@ -10,10 +10,15 @@ type Case = ([Change; 2], [u64; 4]);
 const NONE: Change = (0, &[]);
 
 // Each area of a source has 4,096 bytes, unless it says otherwise.
-const CASES: [Case; 8] = [
+const CASES: [Case; 9] = [
     (
         [NONE, NONE],
         [0x1000_0000, 0x1001_0000, 0x1002_0000, 0x1003_0000],
+    ),
+    // Source 1 alone is enabled.
+    (
+        [(111, &[0]), NONE],
+        [0x1000_0000, 0, 0x1001_0000, 0x1002_0000],
     ),
     // A register stands at the lowest place.
     (
