@@ -1,13 +1,17 @@
 -- A simulated machine: its ports, and the machine that injects.
-use Rattle.std.specs.Prelude.{◌≡◌, ◌<◌, ℕ, List, length, slice_index_or, Option, Some, None, option_map}
+use Rattle.std.specs.Prelude.{◌≢◌, Result, Err, ◌≡◌, ◌<◌, ℕ, List, length, slice_index_or, Option, Some, None, option_map}
 use Rattle.std.specs.Borrow.{LendsIf, MutBor, Fml}
 use Rattle.std.specs.Vec.{with_item}
 use Rattle.apei_hest.specs.declared.source.Ghes.{Ghes}
 use Rattle.apei_einj.specs.declared.entry.Entry.{Entry}
-use Rattle.fw_einj.specs.Machine.{Machine, machine_of}
+use Rattle.apei_einj.specs.Injection.{Injects}
+use Rattle.apei_einj.specs.declared.injected.InjectError.{InjectError}
+use Rattle.apei_einj.specs.declared.injected.InjectError.TheVariants.{Fault}
+use Rattle.apei_einj.specs.declared.injected.Injected.{Injected}
+use Rattle.apei_einj.specs.declared.request.Request.{Request}
+use Rattle.fw_einj.specs.Machine.{Machine, machine_of, IsMachineStep}
 use Rattle.fw_einj.specs.New.{IsNew}
 use Rattle.fw_einj.specs.declared.port.EinjPort.{EinjPort}
-use Rattle.fw_einj.specs.contracts.port.EinjPort as injector_row
 use Rattle.fw_map.specs.Apart.{layout_of}
 use Rattle.fw_map.specs.Map.{IsMapOf}
 use Rattle.fw_map.specs.declared.map.Map.{Map}
@@ -62,6 +66,15 @@ pub record IsPlatformOf (sources : List Ghes) (einj : Option (List Entry)) (plat
 abbrev pub machine_in : Platform → Option Machine
 machine_in platform = option_map machine_of (injector_in platform)
 
+-- An injection by these entries, through the machine that injects: it is its steps in order, up to the first refusal, and
+-- no access of it fails. There is none where there is no such machine (own choice, but for ACPI 6.5, 18.6.1).
+abbrev pub IsInjectedBy : List Entry → Request → Option Machine → Option (Result Injected InjectError) → Option Machine → Type 0
+IsInjectedBy entries request None answer after = (answer ≡ None) × (after ≡ None)
+IsInjectedBy entries request (Some before) None after = ⊥
+IsInjectedBy entries request (Some before) (Some answer) None = ⊥
+IsInjectedBy entries request (Some before) (Some answer) (Some after) =
+    Injects IsMachineStep entries request before answer after × (answer ≢ Err Fault)
+
 -- the machine where one port is another (own choice)
 abbrev pub with_port : Platform → ℕ → SourcePort → Platform
 with_port platform source port = record platform { ports = with_item platform.ports source port }
@@ -69,11 +82,3 @@ with_port platform source port = record platform { ports = with_item platform.po
 -- the machine ends with what is left behind the port, and as it was where there is none (own choice)
 abbrev pub LendsPort : MutBor Platform → ℕ → Option (MutBor SourcePort) → Fml
 LendsPort platform source port = LendsIf platform_row.the_row port_row.the_row platform port (with_port platform.now source) platform.now
-
--- the machine where the one that injects is another (own choice)
-abbrev pub with_injector : Platform → EinjPort → Platform
-with_injector platform injector = record platform { injector = Some injector }
-
--- the machine ends with what is left behind the one that injects, and as it was where there is none (own choice)
-abbrev pub LendsInjector : MutBor Platform → Option (MutBor EinjPort) → Fml
-LendsInjector platform injector = LendsIf platform_row.the_row injector_row.the_row platform injector (with_injector platform.now) platform.now

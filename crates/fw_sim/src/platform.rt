@@ -11,7 +11,7 @@ ghost use Rattle.fw_map.specs.Map.{IsRefusedWith};
 ghost use Rattle.fw_sim.specs.Platform.{IsPlatformOf, IsInjectorOf, IsPortAt, ArePortsOf};
 
 use crate::place::source_layout;
-use apei_einj::Einj;
+use apei_einj::{Einj, InjectError, Injected, Request};
 use apei_hest::{Ghes, Hest};
 use fw_einj::{EinjPort, Setup};
 use fw_map::{FwError, Map, Run, Trigger, enabled_sources};
@@ -84,7 +84,7 @@ fn injector_of(
 }
 
 impl Platform {
-    ghost use Rattle.fw_sim.specs.Platform.{ports_in, injector_in, machine_in, side_injector, LendsPort};
+    ghost use Rattle.fw_sim.specs.Platform.{ports_in, injector_in, machine_in, side_injector, IsInjectedBy, LendsPort};
 
     /// The machine that has these tables, to which nothing has happened.
     ///
@@ -119,6 +119,23 @@ impl Platform {
         ensures none { IsNone result ↔ IsNone (injector_in self.old) }
     {
         self.injector.as_mut()
+    }
+
+    /// Injects an error by the entries of a table, through the port of the machine that injects. None where there is no
+    /// such machine.
+    pub fn inject(
+        &mut self,
+        einj: &Einj,
+        request: &Request,
+    ) -> Option<Result<Injected, InjectError>>
+        ensures does { IsInjectedBy einj.now request.now
+            (machine_in self.old) result (machine_in self.new) }
+        ensures ports { ports_in self.new ≡ ports_in self.old }
+    {
+        match &mut self.injector {
+            Some(injector) => Some(einj.inject(request, injector)),
+            None => None,
+        }
     }
 
     /// Sets up the machine that injects, where there is one.

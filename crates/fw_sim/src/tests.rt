@@ -136,7 +136,7 @@ fn injected(
         status: 0,
         routes: [0, memory, 0, 0],
     });
-    einj.inject(&REQUEST, platform.injector()?).ok()?;
+    platform.inject(einj, &REQUEST)?.ok()?;
     Some(platform.settle())
 }
 
@@ -144,6 +144,7 @@ fn injected(
 fn the_block_of_an_injection_is_raised_once_for_its_source(rt: HostRuntime) -> Result<(), Fail> {
     let (mut none, einj) = machine(rt.alloc(), false)?;
     assert_eq!(rt; injected(&mut none, &einj, 1), None);
+    assert_eq!(rt; none.injector().is_none(), true);
     let (mut platform, einj) = machine(rt.alloc(), true)?;
     assert_eq!(rt; injected(&mut platform, &einj, 1), Some(Ok(Some((1, 1)))));
     assert_eq!(rt; platform.settle(), Ok(None));
