@@ -1,0 +1,3 @@
+mod QueueLemmas
+mod RefusalLemmas
+mod SoundLemmas
