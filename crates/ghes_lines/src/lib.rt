@@ -5,8 +5,8 @@
 mod calling;
 mod desk;
 mod error;
-mod execution;
 mod executing;
+mod execution;
 mod finding;
 mod injector;
 mod lines;

@@ -16,11 +16,7 @@ use std::alloc::{AllocError, Global};
 use std::sync::ledger;
 
 /// Firmware has a new block for the source at a position.
-pub(crate) fn raise_at<P: Port>(
-    ports: &mut [P],
-    at: usize,
-    block: &[u8],
-) -> Result<(), AllocError>
+pub(crate) fn raise_at<P: Port>(ports: &mut [P], at: usize, block: &[u8]) -> Result<(), AllocError>
     requires within { at < length ports.old }
     requires raised { IsRaised block.now }
     requires few { (port : P) → slice_get ports.old at ≡ Some port → length (P.seen port).made + 1 < 2 ^ 32 - 1 }

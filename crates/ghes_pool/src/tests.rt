@@ -110,7 +110,11 @@ fn pushed<R: Abort, L: Ledger>(
 {
     let mut pass = pass;
     let packet = Packet::empty(alloc, 32).expect(rt, "memory");
-    let Hung { slot, old, spare: _ } = swap_in(shared, claim, &mut pass, packet, steps);
+    let Hung {
+        slot,
+        old,
+        spare: _,
+    } = swap_in(shared, claim, &mut pass, packet, steps);
     store_link(shared, slot, old, &mut pass, steps);
     pass
 }
@@ -131,7 +135,11 @@ fn each_slot_once<R: Abort, L: Ledger>(
     let mut pass = pass;
     for slot in 0..shared.slots() {
         let (after, claim) = held(rt, shared, pass, &mut steps);
-        assert_eq!(rt; (claim.slot, claim.turn), (slot, 0), "the first slot that is free");
+        assert_eq!(rt;
+            (claim.slot, claim.turn),
+            (slot, 0),
+            "the first slot that is free"
+        );
         pass = pushed(rt, alloc, shared, claim, after, &mut steps);
     }
     let (_pass, full) = is_full(shared, pass, &mut steps);
