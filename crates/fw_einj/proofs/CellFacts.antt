@@ -50,7 +50,7 @@ bytes-apart cells of first bytes space address zero apart = refl
 bytes-apart cells of first bytes space address (suc n) apart =
     ap₂ (λ (byte : ℕ) rest. byte ∷ rest)
     (ap (λ cell. cond (nat_lt address (2 ^ 64)) (unwrap_or cell 0) 0)
-        (cell-apart cells of first bytes space address (apart-first of first (length bytes) space address n apart)))
+    (cell-apart cells of first bytes space address (apart-first of first (length bytes) space address n apart)))
     (bytes-apart cells of first bytes space (address + 1) n (apart-rest of first (length bytes) space address n apart))
 
 pub value-apart : (cells : Cells) (of : Space) (first : ℕ) (bytes : List ℕ) (reach : Reach)
@@ -92,7 +92,7 @@ byte-there cells space first bytes k mapped ends below =
     let place : first + k - first ≡ k = omega arith in
     ap (λ b. cond b (unwrap_or (with_bytes_at cells space first bytes space (first + k)) 0) 0) low
     ∙ put_there (same_space space space) (is_in_run first (length bytes) (first + k)) (slice_index bytes (first + k - first)) (cells space (first + k))
-        (same_as-itself space) (is_in first (length bytes) k below ends) (mapped k below)
+    (same_as-itself space) (is_in first (length bytes) k below ends) (mapped k below)
     ∙ ap (slice_index bytes) place
 
 -- the bytes from a place on begin with the one there

@@ -55,7 +55,7 @@ begun : (table cell : ℕ) (setup : Setup) (cells : Cells) (made : Option Made) 
 unfolding is_begun field_in
 begun table cell setup cells made mapped =
     let value : value_at (begun_cells cells) execute_reach ≡ 0x9a =
-        ap (little_number 1) (bytes-there cells Port 0xb2 (0x9a ∷ []) 0 1 mapped (omega arith) (omega arith)) in
+    ap (little_number 1) (bytes-there cells Port 0xb2 (0x9a ∷ []) 0 1 mapped (omega arith) (omega arith)) in
     ap (λ n. field_of execute_entry n == bit_and 0x9a 0xff) value
 
 -- what the structure tells is told after a write elsewhere
@@ -98,20 +98,20 @@ pub command-acts : (table cell : ℕ) (setup : Setup) (cells : Cells) (made : Op
     → AreMapped cells Port 0xb2 1 → Tells error flags processor address mask pcie cells → setup.status ≡ 0 → is_error_type error ≡ true → table + 48 ≤ 0x7e000000
     → after_write execute_reach 0x9a (machine_at table cell setup cells 0 None made)
     ≡ machine_at table cell setup (told_cells table cell setup.busy cells) setup.busy
-        (Some (record { error = error; flags = flags; processor = processor; address = address; mask = mask; pcie = pcie })) made
+    (Some (record { error = error; flags = flags; processor = processor; address = address; mask = mask; pcie = pcie })) made
 unfolding after_write after_command after_trigger is_triggered written acted acted_on decided busy_begun status_told table_written table_told armed_with injection_in type_in field_set
 command-acts table cell setup cells made error flags processor address mask pcie mapped tells status type low =
     let w = machine_at table cell setup (begun_cells cells) 0 None made in
     let cn = told_cells table cell setup.busy cells in
     let same : (offset width : ℕ) → value_at cn (memory_reach (0x7e000040 + offset) width) ≡ value_at cells (memory_reach (0x7e000040 + offset) width) =
-        λ offset width. behind-registers table cell setup.busy cells (0x7e000040 + offset) width low (omega arith) in
+    λ offset width. behind-registers table cell setup.busy cells (0x7e000040 + offset) width low (omega arith) in
     let told = tells-still error flags processor address mask pcie cells cn same tells in
     let kind : type_in w.board.asked (begun_cells cells) ≡ error = port-apart cells 0x7e000040 32 ∙ tells.error_told in
     let code : command_status setup error ≡ 0 = ap₂ (λ (s : ℕ) (b : Bool). cond ((s == 0) && not b) 2 s) status type in
     let injection : injection_in error w.board.asked cn ≡ record { error = error; flags = flags; processor = processor; address = address; mask = mask; pcie = pcie } =
-        ap₂ (λ (f p : ℕ). record { error = error; flags = f; processor = p; address = value_at cn (memory_reach 0x7e000050 64); mask = value_at cn (memory_reach 0x7e000058 64); pcie = value_at cn (memory_reach 0x7e000060 32) }) told.flags_told told.processor_told
-        ∙ ap₂ (λ (a m : ℕ). record { error = error; flags = flags; processor = processor; address = a; mask = m; pcie = value_at cn (memory_reach 0x7e000060 32) }) told.address_told told.mask_told
-        ∙ ap (λ (p : ℕ). record { error = error; flags = flags; processor = processor; address = address; mask = mask; pcie = p }) told.pcie_told in
+    ap₂ (λ (f p : ℕ). record { error = error; flags = f; processor = p; address = value_at cn (memory_reach 0x7e000050 64); mask = value_at cn (memory_reach 0x7e000058 64); pcie = value_at cn (memory_reach 0x7e000060 32) }) told.flags_told told.processor_told
+    ∙ ap₂ (λ (a m : ℕ). record { error = error; flags = flags; processor = processor; address = a; mask = m; pcie = value_at cn (memory_reach 0x7e000060 32) }) told.address_told told.mask_told
+    ∙ ap (λ (p : ℕ). record { error = error; flags = flags; processor = processor; address = address; mask = mask; pcie = p }) told.pcie_told in
     ap (after_trigger execute_reach) (ap (λ b. cond b (acted w) w) (begun table cell setup cells made mapped))
     ∙ ap (λ k. acted_on k (command_status setup k) w) kind
     ∙ ap (λ s. acted_on error s w) code

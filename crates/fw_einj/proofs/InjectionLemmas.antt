@@ -106,7 +106,7 @@ module _ (table cell : ℕ) (setup : Setup) (cells : Cells) (made : Option Made)
       let reach = memory_reach 0x7e00000c 32 in
       let field : field_of types_entry setup.available ≡ setup.available = mask32 setup.available small in
       let rows : IsDone (SetsType IsMachineStep sample_entries request (anchor_of 8 sample_entries)) m 0 (Ok tt) (machine_at table cell setup asked_cells 0 None made) 0 =
-          record { does = writes-rows table cell setup made 0x7e000040 (address_structure request.error request.place) cells (below cell rest.cell_below); counted = refl } in
+      record { does = writes-rows table cell setup made 0x7e000040 (address_structure request.error request.place) cells (below cell rest.cell_below); counted = refl } in
       goes_on _ _ _ (tests (Ok tt) m 0 no_place (λ e. absurd (cc e)))
       (goes_on _ _ _ (acts-one sample_entries 3 types_entry 0 (field_of types_entry setup.available) m m refl (setup.available, (sym rest.types, read-elsewhere reach m refl), refl))
       (goes_on _ _ _ (tests (Ok tt) m 0 (sym (ap (type_refusal request) field ∙ available)) (λ e. absurd (cc e)))
@@ -292,9 +292,13 @@ told-table old table small fits =
 -- the trigger table's entry
 abbrev entry_at_cell : ℕ → Entry
 entry_at_cell cell = record {
-  at = 16; action = 0xff; instruction = 3; flags = 0;
+  at = 16;
+  action = 0xff;
+  instruction = 3;
+  flags = 0;
   register = record { space = 0; bit_width = 32; bit_offset = 0; access = 3; address = cell };
-  value = 1; mask = 0xffffffff;
+  value = 1;
+  mask = 0xffffffff;
 }
 
 abbrev header_bytes : List ℕ
@@ -320,7 +324,7 @@ not_past cell low = grind (arith, nat_tests)
 not_refused : (cell : ℕ) → cell + 4 ≤ 0x7e000000 → gas_refusal (entry_at_cell cell).register ≡ None
 not_refused cell low =
     ap (λ w. first_of ((false, gas_errors.Space) ∷ (false, gas_errors.AccessSize) ∷ (nat_lt w 32, gas_errors.TooWide) ∷ (false, gas_errors.PortWidth)
-        ∷ (nat_lt (2 ^ 64) (cell + w / 8), gas_errors.PastEnd) ∷ [])) (width-of cell)
+    ∷ (nat_lt (2 ^ 64) (cell + w / 8), gas_errors.PastEnd) ∷ [])) (width-of cell)
     ∙ ap (λ b. cond b (Some gas_errors.PastEnd) None) (not_past cell low)
 
 trigger-let_in : (cell : ℕ) → cell + 4 ≤ 0x7e000000 → None ≡ trigger_refusal (entry_bytes cell)
@@ -408,20 +412,20 @@ module _ (table cell : ℕ) (setup : Setup) (cells : Cells) (rest : AreAtRest ta
   told-small : value_at (table_cells table cell setup.busy cells) (memory_reach 0x7e000000 64) < 2 ^ 64
   told-small =
       let same = value-apart (status_cells setup.busy cells) Memory table (table_bytes cell) (memory_reach 0x7e000000 64) (inr (inr (omega (arith, rest.table_below, rest.cell_below))))
-          ∙ stays-below (busy_cells setup.busy cells) 0x7e000010 32 _ (memory_reach 0x7e000000 64) (omega arith)
-          ∙ stays-below (begun_cells cells) 0x7e000010 32 _ (memory_reach 0x7e000000 64) (omega arith)
-          ∙ port-apart cells 0x7e000000 64 in
+      ∙ stays-below (busy_cells setup.busy cells) 0x7e000010 32 _ (memory_reach 0x7e000000 64) (omega arith)
+      ∙ stays-below (begun_cells cells) 0x7e000010 32 _ (memory_reach 0x7e000000 64) (omega arith)
+      ∙ port-apart cells 0x7e000000 64 in
       subst (λ n. n < 2 ^ 64) (sym same) rest.told
 
   told-value : value_at last_cells (memory_reach 0x7e000000 64) ≡ table
   told-value =
       let mapped = mapped-stay (status_cells setup.busy cells) Memory table (table_bytes cell) Memory 0x7e000000 0x14
-          (registers-stay (busy_cells setup.busy cells) status_reach _ (busy-mapped table cell setup.busy cells rest.registers)) in
+      (registers-stay (busy_cells setup.busy cells) status_reach _ (busy-mapped table cell setup.busy cells rest.registers)) in
       ap (little_number 8) (rest-apart (setup.busy == 0) command_cells 0x7e000000 8 (omega arith))
       ∙ ap (λ n. value_at (with_value (table_cells table cell setup.busy cells) (memory_reach 0x7e000000 64) n) (memory_reach 0x7e000000 64))
-          (told-table _ table told-small (omega (arith, rest.table_below, rest.cell_below)))
+      (told-table _ table told-small (omega (arith, rest.table_below, rest.cell_below)))
       ∙ value64-there (table_cells table cell setup.busy cells) 0x7e000000 table (part-mapped (table_cells table cell setup.busy cells) 0x7e000000 0x14 0 8 mapped (omega arith)) (omega arith)
-          (omega (arith, rest.table_below, rest.cell_below))
+      (omega (arith, rest.table_below, rest.cell_below))
 
   table-mapped : AreMapped (status_cells setup.busy cells) Memory table 48
   table-mapped =
@@ -498,13 +502,13 @@ module _ (table cell : ℕ) (setup : Setup) (cells : Cells) (made : Option Made)
   unfolding Injects
   injected =
       let tells = structure-tells request.error (flags_of request.place) (processor_of request.place) (address_of request.place) (mask_of request.place) (pcie_of request.place) cells
-          rest.structure fits.error_fits (flags-small request.place) fits.processor_fits fits.address_fits fits.mask_fits fits.pcie_fits in
+      rest.structure fits.error_fits (flags-small request.place) fits.processor_fits fits.address_fits fits.mask_fits fits.pcie_fits in
       let acts = command-acts table cell setup told_of made request.error (flags_of request.place) (processor_of request.place) (address_of request.place) (mask_of request.place) (pcie_of request.place)
-          rest-told.port tells lets.status fits.typed low in
+      rest-told.port tells lets.status fits.typed low in
       goes_on _ _ _ (prepared table cell setup cells made request rest lets.fits lets.available)
       (goes_on _ _ _ (executed table cell setup told_of made (asked_injection request) rest-told.registers low rest-told.status lets.busy acts)
       (goes_on _ _ _ (ended table cell setup last_of made (asked_injection request) (cell-mapped table cell setup told_of rest-told) rest.cell_below (omega (arith, low))
-          (told-value table cell setup told_of rest-told)
-          (ap (λ at. bytes_at last_of Memory at 16) (sym (add-zero table)) ∙ table-bytes table cell setup told_of rest-told 0 16 (omega arith))
-          (table-bytes table cell setup told_of rest-told 16 32 (omega arith)))
+      (told-value table cell setup told_of rest-told)
+      (ap (λ at. bytes_at last_of Memory at 16) (sym (add-zero table)) ∙ table-bytes table cell setup told_of rest-told 0 16 (omega arith))
+      (table-bytes table cell setup told_of rest-told 16 32 (omega arith)))
       (gives (record { busy_reads = setup.busy }) _ 0)))

@@ -23,7 +23,12 @@ use Rattle.fw_einj.proofs.CellFacts.{Apart, bytes-apart, value-apart, mapped-sta
 -- the machine of the sample's shape
 abbrev pub machine_at : ℕ → ℕ → Setup → Cells → ℕ → Option Injection → Option Made → Machine
 machine_at table cell setup cells busy armed made = record {
-  board = sample_board table cell; setup = setup; cells = cells; busy = busy; armed = armed; made = made;
+  board = sample_board table cell;
+  setup = setup;
+  cells = cells;
+  busy = busy;
+  armed = armed;
+  made = made;
 }
 
 pub first_false : (a b : Bool) → a ≡ false → (a && b) ≡ false
@@ -61,9 +66,12 @@ writes-rows table cell setup made address [] cells below = (refl, refl)
 writes-rows table cell setup made address (row ∷ rows) cells below =
     let before = machine_at table cell setup cells 0 None made in
     let reach = memory_reach (address + row.offset) row.width in
-    let step = plain-write reach row.value before refl (behind-trigger cell (address + row.offset) row.width (omega arith)) in
-    (tt, machine_at table cell setup (with_value cells reach row.value) 0 None made, sym step,
-    writes-rows table cell setup made address rows (with_value cells reach row.value) below)
+    let step = plain-write reach row.value before refl (behind-trigger cell (address + row.offset) row.width (omega arith)) in (
+      tt,
+      machine_at table cell setup (with_value cells reach row.value) 0 None made,
+      sym step,
+      writes-rows table cell setup made address rows (with_value cells reach row.value) below,
+    )
 
 -- a value below what is written stays
 pub stays-below : (cells : Cells) (at width value : ℕ) (reach : Reach) → reach.address + reach.width / 8 ≤ at
@@ -95,12 +103,16 @@ pub record Tells (error flags processor address mask pcie : ℕ) (cells : Cells)
 module _ (error flags processor address mask pcie : ℕ) (cells : Cells) (mapped : AreMapped cells Memory 0x7e000040 36) where
   c1 : Cells
   c1 = with_value cells (memory_reach 0x7e000040 32) error
+
   c2 : Cells
   c2 = with_value c1 (memory_reach 0x7e000048 32) flags
+
   c3 : Cells
   c3 = with_value c2 (memory_reach 0x7e00004c 32) processor
+
   c4 : Cells
   c4 = with_value c3 (memory_reach 0x7e000050 64) address
+
   c5 : Cells
   c5 = with_value c4 (memory_reach 0x7e000058 64) mask
 

@@ -19,65 +19,101 @@ use Rattle.fw_einj.specs.declared.setup.Setup.{Setup}
 -- its nine entries, of the actions 0 to 8
 abbrev pub begin_entry : Entry
 begin_entry = record {
-  at = 48; action = 0; instruction = 4; flags = 0;
+  at = 48;
+  action = 0;
+  instruction = 4;
+  flags = 0;
   register = record { space = 0; bit_width = 0; bit_offset = 0; access = 0; address = 0 };
-  value = 0; mask = 0;
+  value = 0;
+  mask = 0;
 }
 
 abbrev pub trigger_entry : Entry
 trigger_entry = record {
-  at = 80; action = 1; instruction = 0; flags = 0;
+  at = 80;
+  action = 1;
+  instruction = 0;
+  flags = 0;
   register = record { space = 0; bit_width = 64; bit_offset = 0; access = 4; address = 0x7e000000 };
-  value = 0; mask = 0xffffffffffffffff;
+  value = 0;
+  mask = 0xffffffffffffffff;
 }
 
 abbrev pub set_type_entry : Entry
 set_type_entry = record {
-  at = 112; action = 2; instruction = 2; flags = 0;
+  at = 112;
+  action = 2;
+  instruction = 2;
+  flags = 0;
   register = record { space = 0; bit_width = 32; bit_offset = 0; access = 3; address = 0x7e000008 };
-  value = 0; mask = 0xffffffff;
+  value = 0;
+  mask = 0xffffffff;
 }
 
 abbrev pub types_entry : Entry
 types_entry = record {
-  at = 144; action = 3; instruction = 0; flags = 0;
+  at = 144;
+  action = 3;
+  instruction = 0;
+  flags = 0;
   register = record { space = 0; bit_width = 32; bit_offset = 0; access = 3; address = 0x7e00000c };
-  value = 0; mask = 0xffffffff;
+  value = 0;
+  mask = 0xffffffff;
 }
 
 abbrev pub end_entry : Entry
 end_entry = record {
-  at = 176; action = 4; instruction = 4; flags = 0;
+  at = 176;
+  action = 4;
+  instruction = 4;
+  flags = 0;
   register = record { space = 0; bit_width = 0; bit_offset = 0; access = 0; address = 0 };
-  value = 0; mask = 0;
+  value = 0;
+  mask = 0;
 }
 
 abbrev pub execute_entry : Entry
 execute_entry = record {
-  at = 208; action = 5; instruction = 3; flags = 0;
+  at = 208;
+  action = 5;
+  instruction = 3;
+  flags = 0;
   register = record { space = 1; bit_width = 8; bit_offset = 0; access = 1; address = 0xb2 };
-  value = 0x9a; mask = 0xff;
+  value = 0x9a;
+  mask = 0xff;
 }
 
 abbrev pub busy_entry : Entry
 busy_entry = record {
-  at = 240; action = 6; instruction = 1; flags = 0;
+  at = 240;
+  action = 6;
+  instruction = 1;
+  flags = 0;
   register = record { space = 0; bit_width = 32; bit_offset = 0; access = 3; address = 0x7e000010 };
-  value = 1; mask = 1;
+  value = 1;
+  mask = 1;
 }
 
 abbrev pub status_entry : Entry
 status_entry = record {
-  at = 272; action = 7; instruction = 0; flags = 0;
+  at = 272;
+  action = 7;
+  instruction = 0;
+  flags = 0;
   register = record { space = 0; bit_width = 8; bit_offset = 1; access = 3; address = 0x7e000010 };
-  value = 0; mask = 0xff;
+  value = 0;
+  mask = 0xff;
 }
 
 abbrev pub structure_entry : Entry
 structure_entry = record {
-  at = 304; action = 8; instruction = 2; flags = 0;
+  at = 304;
+  action = 8;
+  instruction = 2;
+  flags = 0;
   register = record { space = 0; bit_width = 32; bit_offset = 0; access = 3; address = 0x7e000040 };
-  value = 0; mask = 0xffffffff;
+  value = 0;
+  mask = 0xffffffff;
 }
 
 abbrev pub sample_entries : List Entry
@@ -100,7 +136,12 @@ sample_board table cell = record {
 -- its machine at rest: neither busy nor armed
 abbrev pub at_rest : ℕ → ℕ → Setup → Cells → Option Made → Machine
 at_rest table cell setup cells made = record {
-  board = sample_board table cell; setup = setup; cells = cells; busy = 0; armed = None; made = made;
+  board = sample_board table cell;
+  setup = setup;
+  cells = cells;
+  busy = 0;
+  armed = None;
+  made = made;
 }
 
 -- so many cells from a first one on are mapped
