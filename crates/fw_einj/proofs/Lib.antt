@@ -5,3 +5,7 @@ mod FieldLemmas
 mod GuidLemmas
 mod MachineLemmas
 mod OutcomeLemmas
+mod CellFacts
+mod CommandLemmas
+mod InjectionLemmas
+mod SampleLemmas

@@ -6,3 +6,4 @@ pub mod Field
 pub mod Machine
 pub mod New
 pub mod Section
+pub mod Sample

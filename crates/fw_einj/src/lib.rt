@@ -26,7 +26,7 @@ pub use class::Class;
 pub use injection::Injection;
 pub use laws::{
     an_access_of_the_machine_has_one_outcome, an_injected_block_has_the_severity_of_its_type,
-    an_injected_block_is_well_formed,
+    an_injected_block_is_well_formed, an_injection_makes_one_block,
 };
 pub use port::{EinjPort, Made};
 pub use register::Register;
