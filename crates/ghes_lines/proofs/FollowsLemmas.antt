@@ -24,7 +24,8 @@ use Rattle.ghes_lines.specs.Injector.{IsWithoutBlock}
 use Rattle.ghes_lines.specs.Desk.{DeskSeen, worked, marked, drained}
 use Rattle.ghes_lines.specs.Follows.{blocks_in, IsTied, IsAccount, Follows}
 use Rattle.ghes_lines.specs.Machine.{plan_of}
-use Rattle.ghes_lines.specs.Port.{raised, IsPlanned}
+use Rattle.fw_port.specs.Port.{raised}
+use Rattle.ghes_lines.specs.Port.{IsPlanned}
 use Rattle.ghes_lines.specs.declared.machine.Machine.{Machine}
 use Rattle.ghes_lines.specs.declared.machine.Source.{Source}
 use Rattle.ghes_lines.proofs.LineLemmas.{at_set, few_of, account_still, account_work, account_end, quiet_line, lawful_quiet, taking_line, kept_with, drained_is, tells_more, by_source_none}
@@ -79,16 +80,16 @@ module _ {P : Type 0} (seen : P → Seen) (faults : P → ℕ) (machine : Machin
       let same : calls_in history ++ [] ≡ calls_in history = append-nil (calls_in history) in
       let empty = none_fatal ports desk history none f in
       let new : Ties (line ∷ history) s port' = λ source is.
-          let t = f.tied s source port is at in
-          tied_with plan (receive_seen source.receive) s (queue s history) (queue s (line ∷ history)) (calls_in history) (calls_in (line ∷ history)) (fails_in s history) (fails_in s (line ∷ history)) (seen port) (seen port') (faults port) (faults port')
-          same (ap (λ p. p.layout) has)
-          (ap (λ p. p.made) has ∙ ap (λ xs. xs ++ block ∷ []) t.made_is ∙ ap (λ xs. queue s history ++ xs) (sym (blocks_own s block)))
-          (ap (λ p. p.acknowledged) has) (ap (λ p. p.waits) has) (ap (λ p. p.cell) has)
-          (omega (arith, t.planned, ap (λ p. p.planned) has)) counts t in
+      let t = f.tied s source port is at in
+      tied_with plan (receive_seen source.receive) s (queue s history) (queue s (line ∷ history)) (calls_in history) (calls_in (line ∷ history)) (fails_in s history) (fails_in s (line ∷ history)) (seen port) (seen port') (faults port) (faults port')
+      same (ap (λ p. p.layout) has)
+      (ap (λ p. p.made) has ∙ ap (λ xs. xs ++ block ∷ []) t.made_is ∙ ap (λ xs. queue s history ++ xs) (sym (blocks_own s block)))
+      (ap (λ p. p.acknowledged) has) (ap (λ p. p.waits) has) (ap (λ p. p.cell) has)
+      (omega (arith, t.planned, ap (λ p. p.planned) has)) counts t in
       let old : (t : ℕ) (p : P) → (t ≡ s → ⊥) → slice_get ports t ≡ Some p → Ties (line ∷ history) t p = λ t p differ there source is.
-          let t_is = f.tied t source p is there in
-          tied_with plan (receive_seen source.receive) t (queue t history) (queue t (line ∷ history)) (calls_in history) (calls_in (line ∷ history)) (fails_in t history) (fails_in t (line ∷ history)) (seen p) (seen p) (faults p) (faults p)
-          same refl (t_is.made_is ∙ sym (ap (λ xs. queue t history ++ xs) (blocks_other s t block differ) ∙ append-nil (queue t history))) refl refl refl (omega (arith, t_is.planned)) refl t_is in
+      let t_is = f.tied t source p is there in
+      tied_with plan (receive_seen source.receive) t (queue t history) (queue t (line ∷ history)) (calls_in history) (calls_in (line ∷ history)) (fails_in t history) (fails_in t (line ∷ history)) (seen p) (seen p) (faults p) (faults p)
+      same refl (t_is.made_is ∙ sym (ap (λ xs. queue t history ++ xs) (blocks_other s t block differ) ∙ append-nil (queue t history))) refl refl refl (omega (arith, t_is.planned)) refl t_is in
       record {
         as_many = length-set ports s port' ∙ f.as_many;
         tied = λ t source p is there. at_set (Ties (line ∷ history)) ports s port' new old t p there source is;
@@ -197,10 +198,10 @@ module _ {P : Type 0} (seen : P → Seen) (faults : P → ℕ) (machine : Machin
       let one : fails_by s asks ≡ 1 = ap (λ b. cond b 1 0) (eq-eqb s s refl) in
       let Q : ℕ → P → Type 0 = λ t p. (source : Source) → slice_get machine.sources.items t ≡ Some source → IsTied plan (receive_seen source.receive) t (queue t history) (calls_in history) (fails_in t history + fails_by t asks) (seen p) (faults p) in
       let new : Q s port' = λ source is.
-          let t = f.tied s source port is there in
-          tied_with plan (receive_seen source.receive) s (queue s history) (queue s history) (calls_in history) (calls_in history) (fails_in s history) (fails_in s history + fails_by s asks) (seen port) (seen port') (faults port) (faults port')
-          refl (ap (λ p. p.layout) planned.kept) (ap (λ p. p.made) planned.kept ∙ t.made_is) (ap (λ p. p.acknowledged) planned.kept) (ap (λ p. p.waits) planned.kept) (ap (λ p. p.cell) planned.kept)
-          (omega (arith, planned.more, t.planned, one)) counts t in
+      let t = f.tied s source port is there in
+      tied_with plan (receive_seen source.receive) s (queue s history) (queue s history) (calls_in history) (calls_in history) (fails_in s history) (fails_in s history + fails_by s asks) (seen port) (seen port') (faults port) (faults port')
+      refl (ap (λ p. p.layout) planned.kept) (ap (λ p. p.made) planned.kept ∙ t.made_is) (ap (λ p. p.acknowledged) planned.kept) (ap (λ p. p.waits) planned.kept) (ap (λ p. p.cell) planned.kept)
+      (omega (arith, planned.more, t.planned, one)) counts t in
       follows_quiet ports (slice_set ports s port') desk desk history number (Fail s) desk.ledger.peeks (length-set ports s port')
       (λ t source p is p_there. at_set Q ports s port' new (λ r y differ y_there other at. ties_more ports desk history asks f r other y at y_there) t p p_there source is)
       refl refl refl refl (sym (append-nil _)) none f

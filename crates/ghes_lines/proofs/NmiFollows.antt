@@ -143,14 +143,14 @@ module _ (plan : Plan) (history : List Executed) (number context s n : ℕ) (pac
       let A : List PanicEntry → Type 0 = λ panic. IsAccount plan (the_line outcome ack ∷ history) desk.pending.packets panic in
       let numbered : (number_of outcome ≡ []) ⊎ (number_of outcome ≡ (acknowledged s (calls_in history) + 1) ∷ []) = subst (λ (m : ℕ). (number_of outcome ≡ []) ⊎ (number_of outcome ≡ m ∷ [])) a.next number_is in
       subst A (sym a.panic) (account_of plan (the_line outcome ack ∷ history) desk.pending.packets []
-        (keeps_other plan history desk.pending.packets number (the_call outcome ack) (keeps_of plan history desk.pending.packets [] a.account) a.lawful none mild_is numbered))
+      (keeps_other plan history desk.pending.packets number (the_call outcome ack) (keeps_of plan history desk.pending.packets [] a.account) a.lawful none mild_is numbered))
 
   pushed : (outcome : Outcome) (ack : AckState) → IsAhead outcome ack → pending_number outcome ≡ n ∷ [] → number_of outcome ≡ n ∷ [] → fatal_number outcome ≡ [] → IsImageIn plan history packet → IsAccount plan (the_line outcome ack ∷ history) (desk.pending.packets ++ packet ∷ []) desk.ledger.panic
   pushed outcome ack a is number_is mild_is image =
       let A : List PanicEntry → Type 0 = λ panic. IsAccount plan (the_line outcome ack ∷ history) (desk.pending.packets ++ packet ∷ []) panic in
       subst A (sym a.panic) (account_of plan (the_line outcome ack ∷ history) (desk.pending.packets ++ packet ∷ []) []
-        (keeps_queued plan history desk.pending.packets number (the_call outcome ack) packet (keeps_of plan history desk.pending.packets [] a.account) a.lawful
-          (is ∙ ap (λ m. m ∷ []) (sym a.seq)) (number_is ∙ ap (λ m. m ∷ []) a.next) mild_is a.source image))
+      (keeps_queued plan history desk.pending.packets number (the_call outcome ack) packet (keeps_of plan history desk.pending.packets [] a.account) a.lawful
+      (is ∙ ap (λ m. m ∷ []) (sym a.seq)) (number_is ∙ ap (λ m. m ∷ []) a.next) mild_is a.source image))
 
   room_for_one : is_full desk.pending ≡ false → length (desk.pending.packets ++ packet ∷ []) ≤ desk.pending.slots
   room_for_one free = omega (arith, leb-false desk.pending.slots (length desk.pending.packets) free, length-append desk.pending.packets (packet ∷ []))
@@ -178,7 +178,7 @@ module _ (plan : Plan) (history : List Executed) (number context s n : ℕ) (pac
       let A : List PanicEntry → Type 0 = λ panic. IsAccount plan (the_line (Fatal m) ack ∷ history) [] ((panic ++ map (panic_entry false) desk.pending.packets) ++ panic_entry true packet ∷ []) in
       record {
         account = subst A (sym a.panic) (account_of plan (the_line (Fatal m) ack ∷ history) [] _
-          (keeps_fatal plan history desk.pending.packets number (the_call (Fatal m) ack) packet (keeps_of plan history desk.pending.packets [] a.account) a.empty a.lawful refl
+            (keeps_fatal plan history desk.pending.packets number (the_call (Fatal m) ack) packet (keeps_of plan history desk.pending.packets [] a.account) a.empty a.lawful refl
             (ap (λ k. k ∷ []) for ∙ ap (λ k. k ∷ []) (sym a.seq)) (ap (λ k. k ∷ []) for ∙ ap (λ k. k ∷ []) a.next) a.source (image refl)));
         few = omega arith;
         left = λ some. refl;
@@ -244,12 +244,12 @@ module _ {P : Type 0} (seen : P → Seen) (faults : P → ℕ) (machine : Machin
       let desk_is : desk' ≡ after = nmi.desk_is ∙ ap (λ o. panicked_by o (entered call nmi.between)) nmi.call.fatal_is ∙ ap (λ d. panicked_by (fatal_by outcome packet) (entered call d)) nmi.call.pending in
       let ledger : after.ledger ≡ with_panic after.ledger.panic before_panic.ledger = ledger_is (fatal_by outcome packet) before_panic in
       let new : Ties (line ∷ history) s port' = λ other other_at.
-          let same : source ≡ other = ap (λ o. unwrap_or o source) (sym at ∙ other_at) in
-          subst (λ (o : Source). IsTied plan (receive_seen o.receive) s (queue s (line ∷ history)) (calls_in (line ∷ history)) (fails_in s (line ∷ history)) (seen port') (faults port')) same
-          (tied_line receive history number s s call (seen port') (faults port') tied') in
+      let same : source ≡ other = ap (λ o. unwrap_or o source) (sym at ∙ other_at) in
+      subst (λ (o : Source). IsTied plan (receive_seen o.receive) s (queue s (line ∷ history)) (calls_in (line ∷ history)) (fails_in s (line ∷ history)) (seen port') (faults port')) same
+      (tied_line receive history number s s call (seen port') (faults port') tied') in
       let old : (r : ℕ) (p : P) → (r ≡ s → ⊥) → slice_get ports r ≡ Some p → Ties (line ∷ history) r p = λ r p differ p_there other other_at.
-          tied_line (receive_seen other.receive) history number s r call (seen p) (faults p)
-          (tied_other plan (receive_seen other.receive) r (queue r history) past (fails_in r history) (seen p) (faults p) call (ne_eqb s r (λ e. differ (sym e))) (f.tied r other p other_at p_there)) in
+      tied_line (receive_seen other.receive) history number s r call (seen p) (faults p)
+      (tied_other plan (receive_seen other.receive) r (queue r history) past (fails_in r history) (seen p) (faults p) call (ne_eqb s r (λ e. differ (sym e))) (f.tied r other p other_at p_there)) in
       subst (λ (d : DeskSeen). Follows seen faults machine (slice_set ports s port') (marked number d) (line ∷ history)) (sym desk_is)
       (record {
         as_many = length-set ports s port' ∙ f.as_many;

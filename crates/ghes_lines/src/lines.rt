@@ -5,7 +5,8 @@ ghost use Rattle.ghes_call.specs.Receive.{IsOfSource};
 ghost use Rattle.ghes_nmi.specs.Receive.{receive_seen};
 ghost use Rattle.ghes_lines.specs.Desk.{IsNmi};
 ghost use Rattle.ghes_lines.specs.Lines.{IsAt};
-ghost use Rattle.ghes_lines.specs.Port.{raised, IsPlanned, ack_cell_of};
+ghost use Rattle.fw_port.specs.Port.{raised};
+ghost use Rattle.ghes_lines.specs.Port.{IsPlanned, ack_cell_of};
 ghost use Rattle.ghes_lines.specs.declared.machine.Source.{Source};
 
 use crate::desk::Desk;
@@ -16,11 +17,7 @@ use std::alloc::{AllocError, Global};
 use std::sync::ledger;
 
 /// Firmware has a new block for the source at a position.
-pub(crate) fn raise_at<P: Port>(
-    ports: &mut [P],
-    at: usize,
-    block: &[u8],
-) -> Result<(), AllocError>
+pub(crate) fn raise_at<P: Port>(ports: &mut [P], at: usize, block: &[u8]) -> Result<(), AllocError>
     requires within { at < length ports.old }
     requires raised { IsRaised block.now }
     requires few { (port : P) → slice_get ports.old at ≡ Some port → length (P.seen port).made + 1 < 2 ^ 32 - 1 }

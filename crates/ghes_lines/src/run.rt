@@ -40,7 +40,15 @@ pub fn run_lines<P: Port, I: Injector, L: ledger::Ledger>(
     let mut desk = Desk::new(alloc, usize::from(machine.slots), block_len)?;
     let mut next = 0;
     while next < lines.len() && !desk.is_stopped() {
-        match execute(alloc, machine, ports, injector, &mut desk, &lines[next], steps) {
+        match execute(
+            alloc,
+            machine,
+            ports,
+            injector,
+            &mut desk,
+            &lines[next],
+            steps,
+        ) {
             Ok(()) => next += 1,
             Err(stop) => return Err(stop),
         }

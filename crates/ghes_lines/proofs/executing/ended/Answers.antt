@@ -12,5 +12,5 @@ returns-clause-ok g c =
     let desk = c.args.desk.now in
     on_ok _ _ c.mark.result
     (λ is before f. goes_on seen faults machine _ c.args.ports.now _ _ before _ refl (is ∙ ap (marked c.args.number) c.in_ok-end_injection.ensures)
-        (follows_ended seen faults machine c.args.ports.now desk before c.args.number c.args.end c.requires.none c.requires.running f))
+    (follows_ended seen faults machine c.args.ports.now desk before c.args.number c.args.end c.requires.none c.requires.running f))
     c.mark.ensures

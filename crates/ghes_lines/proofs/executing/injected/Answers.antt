@@ -22,8 +22,8 @@ returns-clause-ok g c =
     let source = there_is machine.sources.items s (subst (λ n. n < length machine.sources.items) (sym c.from-at.ensures) c.requires.within) in
     on_ok _ _ c.mark.result
     (λ is before f. goes_at seen faults machine _ _ _ _ _ before _ refl at.now
-        (is ∙ ap (marked c.args.number) c.in_ok-end_injection.ensures
-          ∙ ap (λ d. marked c.args.number (with_end (Made c.args.source seq) d)) c.count.ensures
-          ∙ ap (λ n. marked c.args.number (with_end (Made n seq) (record desk { blocks = desk.blocks + 1 }))) (sym c.from-at.ensures))
-        (follows_made seen faults machine c.args.ports.now desk before c.args.number s c.args.block.now seq at.port at.port' at.there source.0 source.1 (ap (λ n. n + 1) (c.raised_at-seq.ensures.value at.port at.there)) at.did.0 at.did.1 c.requires.running f))
+    (is ∙ ap (marked c.args.number) c.in_ok-end_injection.ensures
+    ∙ ap (λ d. marked c.args.number (with_end (Made c.args.source seq) d)) c.count.ensures
+    ∙ ap (λ n. marked c.args.number (with_end (Made n seq) (record desk { blocks = desk.blocks + 1 }))) (sym c.from-at.ensures))
+    (follows_made seen faults machine c.args.ports.now desk before c.args.number s c.args.block.now seq at.port at.port' at.there source.0 source.1 (ap (λ n. n + 1) (c.raised_at-seq.ensures.value at.port at.there)) at.did.0 at.did.1 c.requires.running f))
     c.mark.ensures

@@ -19,5 +19,5 @@ returns-clause-ok g c =
     let at = c.in_ok-raise_at.ensures.ok in
     on_ok _ _ c.mark.result
     (λ is before f. goes_at seen faults machine _ _ _ _ _ before _ refl at.now (is ∙ ap (marked c.args.number) c.count.ensures)
-        (follows_raise seen faults machine c.args.ports.now desk before c.args.number c.args.at c.args.block.now at.port at.port' at.there at.did.0 at.did.1 c.requires.running f))
+    (follows_raise seen faults machine c.args.ports.now desk before c.args.number c.args.at c.args.block.now at.port at.port' at.there at.did.0 at.did.1 c.requires.running f))
     c.mark.ensures
