@@ -7,7 +7,7 @@ use Rattle.ghes_ledger.specs.History.{Act, Executed}
 use Rattle.ghes_lines.specs.Desk.{DeskSeen}
 use Rattle.ghes_lines.specs.Follows.{Follows}
 use Rattle.ghes_lines.specs.Lines.{GoesOn}
-use Rattle.ghes_lines.specs.Port.{cell_of}
+use Rattle.fw_port.specs.Port.{cell_of}
 use Rattle.ghes_lines.specs.declared.machine.Machine.{Machine}
 
 -- what follows where a call succeeds

@@ -24,7 +24,8 @@ use Rattle.ghes_lines.specs.Injector.{IsWithoutBlock}
 use Rattle.ghes_lines.specs.Desk.{DeskSeen, worked, marked, drained}
 use Rattle.ghes_lines.specs.Follows.{blocks_in, IsTied, IsAccount, Follows}
 use Rattle.ghes_lines.specs.Machine.{plan_of}
-use Rattle.ghes_lines.specs.Port.{raised, IsPlanned}
+use Rattle.fw_port.specs.Port.{raised}
+use Rattle.ghes_lines.specs.Port.{IsPlanned}
 use Rattle.ghes_lines.specs.declared.machine.Machine.{Machine}
 use Rattle.ghes_lines.specs.declared.machine.Source.{Source}
 use Rattle.ghes_lines.proofs.LineLemmas.{at_set, few_of, account_still, account_work, account_end, quiet_line, lawful_quiet, taking_line, kept_with, drained_is, tells_more, by_source_none}

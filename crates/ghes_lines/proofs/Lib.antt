@@ -8,4 +8,5 @@ mod NmiFollows
 mod NmiLemmas
 mod OutcomeLemmas
 mod RunningLemmas
+mod ScriptLemmas
 mod TiedLemmas

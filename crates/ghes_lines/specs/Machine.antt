@@ -6,7 +6,7 @@ use Rattle.ghes_ledger.specs.Plan.{Plan}
 use Rattle.ghes_nmi.specs.Receive.{ack_seen}
 use Rattle.ghes_lines.specs.declared.machine.Machine.{Machine}
 use Rattle.ghes_lines.specs.declared.machine.Source.{Source}
-use Rattle.ghes_lines.specs.Port.{cell_in}
+use Rattle.fw_port.specs.Port.{cell_in}
 
 -- what a source has, by its position; without a source it has nothing
 abbrev pub id_of : Option Source → ℕ

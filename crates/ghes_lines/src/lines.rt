@@ -5,7 +5,8 @@ ghost use Rattle.ghes_call.specs.Receive.{IsOfSource};
 ghost use Rattle.ghes_nmi.specs.Receive.{receive_seen};
 ghost use Rattle.ghes_lines.specs.Desk.{IsNmi};
 ghost use Rattle.ghes_lines.specs.Lines.{IsAt};
-ghost use Rattle.ghes_lines.specs.Port.{raised, IsPlanned, ack_cell_of};
+ghost use Rattle.fw_port.specs.Port.{raised};
+ghost use Rattle.ghes_lines.specs.Port.{IsPlanned, ack_cell_of};
 ghost use Rattle.ghes_lines.specs.declared.machine.Source.{Source};
 
 use crate::desk::Desk;

@@ -1,9 +1,11 @@
 //! The memory of one error source, and what a simulated machine does there beside the receiver.
 ghost use Rattle.std.specs.Prelude.{◌≡◌, ◌<◌, ◌+◌, ◌-◌, ◌^◌, length, OnOk, OnErr};
 ghost use Rattle.apei_base.specs.Firmware.{IsRaised};
-ghost use Rattle.ghes_lines.specs.Port.{raised, with_cell, IsPlanned, ack_cell_of, HasRegister};
+ghost use Rattle.fw_port.specs.Port.{raised};
+ghost use Rattle.ghes_lines.specs.Port.{IsPlanned, ack_cell_of};
 
 use apei_base::Firmware;
+use fw_port::SourcePort;
 use std::alloc::AllocError;
 
 /// The memory of one error source of a simulated machine, where firmware raises blocks and accesses fail on demand.
@@ -24,12 +26,6 @@ pub trait Port: Firmware {
         ensures err { OnErr result (Self.seen self.new ≡ Self.seen self.old) }
         ensures faults { Self.faults self.new ≡ Self.faults self.old };
 
-    /// Puts the low bits of a value into the read ack register, as many as it is wide.
-    fn set_ack_cell(&mut self, value: u64)
-        requires { HasRegister (Self.seen self.old) }
-        ensures seen { Self.seen self.new ≡ with_cell value (Self.seen self.old) }
-        ensures faults { Self.faults self.new ≡ Self.faults self.old };
-
     /// What the read ack register holds, if there is one.
     fn ack_cell(&self) -> Option<u64>
         ensures { result ≡ ack_cell_of (Self.seen self.now) };
@@ -43,4 +39,27 @@ pub trait Port: Firmware {
     fn acknowledged(&self) -> u32
         ensures value { result ≡ (Self.seen self.now).acknowledged }
         ensures few { result < 2 ^ 32 - 1 };
+}
+
+impl Port for SourcePort {
+    fn raise(&mut self, block: &[u8]) -> Result<(), AllocError> {
+        SourcePort::raise(self, block)?;
+        Ok(())
+    }
+
+    fn fail(&mut self, number: u64) -> Result<(), AllocError> {
+        SourcePort::fail(self, number)
+    }
+
+    fn ack_cell(&self) -> Option<u64> {
+        SourcePort::ack_cell(self)
+    }
+
+    fn raised(&self) -> u32 {
+        SourcePort::raised(self)
+    }
+
+    fn acknowledged(&self) -> u32 {
+        SourcePort::acknowledged(self)
+    }
 }
