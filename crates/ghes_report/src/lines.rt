@@ -60,10 +60,10 @@ impl fmt::Display for Ended {
 }
 
 /// The id of the source at a position, and 0 where there is none.
-pub(crate) fn id_at(ids: &[u16], source: u16) -> u16
+pub(crate) fn id_at(ids: &[u16], source: usize) -> u16
     ensures { result ≡ id_at ids.now source }
 {
-    match ids.get(source as usize) {
+    match ids.get(source) {
         Some(id) => *id,
         None => 0,
     }
@@ -75,7 +75,7 @@ fn told_in(ids: &[u16], reports: &[Report], number: u64) -> Told
 {
     match reports.get(number.saturating_sub(1) as usize) {
         Some(report) => Told {
-            id: id_at(ids, report.source),
+            id: id_at(ids, report.source as usize),
             seq: report.seq,
         },
         None => Told { id: 0, seq: 0 },
@@ -124,7 +124,7 @@ fn call_text(
         told: told_of(ids, reports, reply.outcome),
         outcome: reply.outcome,
     };
-    let line = call_line(alloc, id_at(ids, source), ended, ack_text(reply.ack))?;
+    let line = call_line(alloc, id_at(ids, source as usize), ended, ack_text(reply.ack))?;
     into.extend_from_slice(line.as_bytes())
 }
 
@@ -168,7 +168,7 @@ fn taken_text(
             seq,
             bytes,
             reported: Reported::New(_),
-        } => report_text(alloc, into, id_at(ids, *source), *seq, bytes.as_slice()),
+        } => report_text(alloc, into, id_at(ids, *source as usize), *seq, bytes.as_slice()),
         Taken::Delivered {
             source,
             seq,
@@ -176,7 +176,7 @@ fn taken_text(
             ..
         } => {
             let told = told_in(ids, reports, *number);
-            let line = repeat_line(alloc, id_at(ids, *source), *seq, told)?;
+            let line = repeat_line(alloc, id_at(ids, *source as usize), *seq, told)?;
             into.extend_from_slice(line.as_bytes())
         }
         Taken::Dropped {
@@ -187,7 +187,7 @@ fn taken_text(
         } => drop_text(
             alloc,
             into,
-            id_at(ids, *source),
+            id_at(ids, *source as usize),
             *seq,
             reason,
             bytes.as_slice(),

@@ -34,7 +34,7 @@ fn entry_text(
     requires { IsSoundEntry entry.now }
     ensures { OnOk result (into.new.items ≡ into.old.items ++ entry_text ids.now entry.now) }
 {
-    let id = id_at(ids, entry.source);
+    let id = id_at(ids, entry.source as usize);
     let line = entry_line(alloc, entry_word(entry.fatal), id, entry.seq)?;
     into.extend_from_slice(line.as_bytes())?;
     match &entry.reason {
