@@ -7,8 +7,8 @@ ghost use Rattle.ghes_report.specs.Replay.{replay_text};
 ghost use Rattle.ghes_report.specs.Sound.{IsSound, IsSoundTaken, IsSoundEntry};
 ghost use Rattle.ghes_report.specs.Summary.{summary_text};
 
-use crate::lines::append_lines;
-use crate::panic::append_panic;
+use crate::lines::add_lines;
+use crate::panic::add_panic;
 use crate::summary::add_summary;
 use crate::text::Text;
 use ghes_ledger::{Ledger, Summary};
@@ -28,9 +28,9 @@ pub fn lines_text(
     ensures ok { OnOk result (into.new.items ≡ into.old.items ++ lines_text ids.now ledger.now) }
     ensures err { OnErr result (into.new.items ≡ into.old.items) }
 {
-    let mut text = Vec::new(alloc);
-    append_lines(alloc, &mut text, ids, ledger)?;
-    into.extend_from_slice(&text)
+    let mut text = Text::open(alloc, into);
+    let done = add_lines(&mut text, ids, ledger);
+    text.close(into, done)
 }
 
 /// Appends the panic report of a ledger: nothing, where its panic list is empty.
@@ -47,9 +47,9 @@ pub fn panic_text(
     ensures ok { OnOk result (into.new.items ≡ into.old.items ++ panic_text ids.now ledger.now.panic) }
     ensures err { OnErr result (into.new.items ≡ into.old.items) }
 {
-    let mut text = Vec::new(alloc);
-    append_panic(alloc, &mut text, ids, ledger.panic())?;
-    into.extend_from_slice(&text)
+    let mut text = Text::open(alloc, into);
+    let done = add_panic(&mut text, ids, ledger.panic());
+    text.close(into, done)
 }
 
 /// Appends the text of a summary: a line for each source with how many blocks it raised, had acknowledged, and what became of
@@ -88,8 +88,8 @@ pub fn replay_text(
 {
     let summary = ledger.summary(alloc, ids.len())?;
     let mut text = Vec::new(alloc);
-    append_lines(alloc, &mut text, ids, ledger)?;
-    append_panic(alloc, &mut text, ids, ledger.panic())?;
+    lines_text(alloc, &mut text, ledger, ids)?;
+    panic_text(alloc, &mut text, ledger, ids)?;
     summary_text(alloc, &mut text, &summary, ids, raised, acknowledged)?;
     Ok(text)
 }

@@ -25,9 +25,9 @@ fn raised_line(text: &mut Text, id: u16, raised: u32, acknowledged: u32) -> Resu
     ensures ok { OnOk result (text.new.added ≡ text.old.added ++ raised_line id raised acknowledged) }
     ensures front { text.new.front ≡ text.old.front }
 {
-    counted(text, "source ", u64::from(id))?;
-    counted(text, ": raised ", u64::from(raised))?;
-    counted(text, ", acknowledged ", u64::from(acknowledged))
+    counted(text, "source ", id as u64)?;
+    counted(text, ": raised ", raised as u64)?;
+    counted(text, ", acknowledged ", acknowledged as u64)
 }
 
 // Adds the second part of the line of a source: what came out.
