@@ -188,12 +188,7 @@ fn taken_text(
             seq,
             bytes,
             reported: Reported::New(_),
-        } => report(
-            text,
-            id_at(ids, *source as usize),
-            *seq,
-            bytes.as_slice(),
-        ),
+        } => report(text, id_at(ids, *source as usize), *seq, bytes.as_slice()),
         Taken::Delivered {
             source,
             seq,
