@@ -1,5 +1,5 @@
 -- The text of a summary by what it is a summary of.
-use Rattle.std.proofs.Common.{◌≡◌, ℕ, List, ◌++◌, length}
+use Rattle.std.proofs.Common.{◌≡◌, ℕ, List, length}
 use Rattle.ghes_ledger.specs.declared.summary.Summary.{Summary}
 use Rattle.ghes_ledger.specs.Counts.{IsSummaryOf}
 use Rattle.ghes_ledger.specs.Kept.{Kept}
