@@ -6,4 +6,5 @@ pub mod OwnBytes
 mod ShownLemmas
 mod WholeLemmas
 mod SoundLemmas
+mod SummaryLemmas
 mod BetweenLemmas

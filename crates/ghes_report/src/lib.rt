@@ -17,6 +17,6 @@ mod summary;
 mod tests;
 mod text;
 
-pub use laws::bytes_behind_a_block_are_not_printed;
+pub use laws::{a_summary_tells_its_ledger, bytes_behind_a_block_are_not_printed};
 pub use replay::{lines_text, panic_text, replay_text, summary_text};
 pub use report::{block_text, drop_text, malformed_lines, report_text};

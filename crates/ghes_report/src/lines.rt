@@ -1,15 +1,15 @@
 //! The lines of a replay, made of its ledger behind the run.
-ghost use Rattle.std.specs.Prelude.{◌≡◌, ◌++◌, OnOk, OnErr, IfOk};
-ghost use Rattle.std.specs.String.{string_bytes};
+ghost use Rattle.std.specs.Prelude.{◌≡◌, ◌++◌, OnOk};
+ghost use Rattle.std.specs.Fmt.{decimal};
 ghost use Rattle.std.specs.List.{flat_map, AllByRecursion};
-ghost use Rattle.ghes_report.specs.Lines.{id_at, told_in, told_of, told_text, outcome_text, ack_text, call_line, call_text, repeat_line, delivered_text, taken_text, between, line_text, lines_text};
+ghost use Rattle.ghes_report.specs.Lines.{id_at, told_in, told_of, told_text, outcome_text, ack_text, call_line, call_text, repeat_line, taken_text, between, line_text, lines_text};
 ghost use Rattle.ghes_report.specs.Sound.{IsSoundTaken};
 
-use crate::report::{drop_text, report_text};
+use crate::report::{dropped, reason_text, report, source_and_block};
+use crate::text::Text;
 use ghes_call::{AckState, Call, Outcome};
 use ghes_ledger::{Ledger, Mark, Report, Reported, Taken};
-use std::alloc::{AllocError, Global};
-use std::fmt;
+use std::alloc::AllocError;
 
 /// The block that a report told.
 #[derive(Clone, Copy, Debug)]
@@ -20,50 +20,56 @@ pub(crate) struct Told {
     pub seq: u32,
 }
 
-impl fmt::Display for Told {
-    ghost use Rattle.std.specs.Prelude.{Some};
-
-    ghost output = { λ told. Some (told_text told) };
-
-    #[tactic(auto, unfolding(crate::specs::Lines::told_text))]
-    fn fmt<W: fmt::Write>(&self, f: &mut fmt::Formatter<W>) -> fmt::Result {
-        let (id, seq) = (self.id, self.seq);
-        write!(f, "source {id} block {seq}")
-    }
+// Adds the block that a report told.
+#[tactic(auto, using(crate::proofs::Joining::grouped), unfolding(crate::specs::Lines::told_text))]
+fn told_text(text: &mut Text, told: Told) -> Result<(), AllocError>
+    ensures ok { OnOk result (text.new.added ≡ text.old.added ++ told_text told) }
+    ensures front { text.new.front ≡ text.old.front }
+{
+    source_and_block(text, "source ", told.id, told.seq)
 }
 
-// How a call ended, as text.
-#[derive(Clone, Copy, Debug)]
-struct Ended {
-    told: Told,
-    outcome: Outcome,
+// Adds a word and a number.
+#[tactic(auto, using(crate::proofs::Joining::grouped))]
+fn numbered(text: &mut Text, word: &str, number: u32) -> Result<(), AllocError>
+    ensures ok { OnOk result (text.new.added ≡ text.old.added ++ word.now ++ decimal number) }
+    ensures front { text.new.front ≡ text.old.front }
+{
+    text.put(word.as_bytes())?;
+    text.put_number(number)
 }
 
-impl fmt::Display for Ended {
-    ghost use Rattle.std.specs.Prelude.{Some};
-
-    ghost output = { λ ended. Some (outcome_text ended.told ended.outcome) };
-
-    fn fmt<W: fmt::Write>(&self, f: &mut fmt::Formatter<W>) -> fmt::Result {
-        let told = self.told;
-        match &self.outcome {
-            Outcome::Nothing => f.write_str("nothing"),
-            Outcome::Queued(number) => write!(f, "queued {number}"),
-            Outcome::Malformed(number, reason) => write!(f, "malformed {number}: {reason}"),
-            Outcome::Duplicate(number, _) => write!(f, "duplicate {number} of {told}"),
-            Outcome::Fatal(number) => write!(f, "fatal {number}"),
-            Outcome::NoSlot => f.write_str("no slot"),
-            Outcome::Fault => f.write_str("fault"),
-            Outcome::Stopped => f.write_str("stopped"),
+// Adds how a call ended.
+#[tactic(auto, using(crate::proofs::Joining::grouped))]
+fn outcome_text(text: &mut Text, told: Told, outcome: Outcome) -> Result<(), AllocError>
+    ensures ok { OnOk result (text.new.added ≡ text.old.added ++ outcome_text told outcome) }
+    ensures front { text.new.front ≡ text.old.front }
+{
+    match outcome {
+        Outcome::Nothing => text.put(b"nothing"),
+        Outcome::Queued(number) => numbered(text, "queued ", number),
+        Outcome::Malformed(number, reason) => {
+            numbered(text, "malformed ", number)?;
+            text.put(b": ")?;
+            reason_text(text, reason)
         }
+        Outcome::Duplicate(number, _) => {
+            numbered(text, "duplicate ", number)?;
+            text.put(b" of ")?;
+            told_text(text, told)
+        }
+        Outcome::Fatal(number) => numbered(text, "fatal ", number),
+        Outcome::NoSlot => text.put(b"no slot"),
+        Outcome::Fault => text.put(b"fault"),
+        Outcome::Stopped => text.put(b"stopped"),
     }
 }
 
 /// The id of the source at a position, and 0 where there is none.
-pub(crate) fn id_at(ids: &[u16], source: u16) -> u16
+pub(crate) fn id_at(ids: &[u16], source: usize) -> u16
     ensures { result ≡ id_at ids.now source }
 {
-    match ids.get(source as usize) {
+    match ids.get(source) {
         Some(id) => *id,
         None => 0,
     }
@@ -75,7 +81,7 @@ fn told_in(ids: &[u16], reports: &[Report], number: u64) -> Told
 {
     match reports.get(number.saturating_sub(1) as usize) {
         Some(report) => Told {
-            id: id_at(ids, report.source),
+            id: id_at(ids, report.source as usize),
             seq: report.seq,
         },
         None => Told { id: 0, seq: 0 },
@@ -102,65 +108,79 @@ fn ack_text(ack: AckState) -> &'static str
     }
 }
 
-// The line of a call.
-fn call_line(alloc: Global, id: u16, ended: Ended, ack: &str) -> Result<String, AllocError>
-    ensures { IfOk result (λ line. string_bytes line ≡ call_line id (outcome_text ended.told ended.outcome) ack.now) }
+// Adds the line of a call.
+#[tactic(auto, using(crate::proofs::Joining::grouped), unfolding(crate::specs::Lines::call_line))]
+fn call_line(
+    text: &mut Text,
+    id: u16,
+    told: Told,
+    outcome: Outcome,
+    ack: AckState,
+) -> Result<(), AllocError>
+    ensures ok { OnOk result (text.new.added ≡ text.old.added ++ call_line id (outcome_text told outcome) (ack_text ack)) }
+    ensures front { text.new.front ≡ text.old.front }
 {
-    format!(in alloc; "nmi {id}: {ended}{ack}\n")
+    numbered(text, "nmi ", u32::from(id))?;
+    text.put(b": ")?;
+    outcome_text(text, told, outcome)?;
+    text.put(ack_text(ack).as_bytes())?;
+    text.put(b"\n")
 }
 
-// Appends the line of a call.
+// Adds the line of a call, by the ids of the sources and the reports.
 fn call_text(
-    alloc: Global,
-    into: &mut Vec<u8>,
+    text: &mut Text,
     ids: &[u16],
     reports: &[Report],
     call: &Call,
 ) -> Result<(), AllocError>
-    ensures { OnOk result (into.new.items ≡ into.old.items ++ call_text ids.now reports.now call.entry.now) }
+    ensures ok { OnOk result (text.new.added ≡ text.old.added ++ call_text ids.now reports.now call.entry.now) }
+    ensures front { text.new.front ≡ text.old.front }
 {
     let Call { source, reply, .. } = *call;
-    let ended = Ended {
-        told: told_of(ids, reports, reply.outcome),
-        outcome: reply.outcome,
-    };
-    let line = call_line(alloc, id_at(ids, source), ended, ack_text(reply.ack))?;
-    into.extend_from_slice(line.as_bytes())
+    let told = told_of(ids, reports, reply.outcome);
+    let id = id_at(ids, source as usize);
+    call_line(text, id, told, reply.outcome, reply.ack)
 }
 
-// Appends the lines of the calls.
+// Adds the lines of the calls.
 fn calls_text(
-    alloc: Global,
-    into: &mut Vec<u8>,
+    text: &mut Text,
     ids: &[u16],
     reports: &[Report],
     calls: &[Call],
 ) -> Result<(), AllocError>
-    ensures { OnOk result (into.new.items ≡ into.old.items ++ flat_map (call_text ids.now reports.now) calls.now) }
+    ensures ok { OnOk result (text.new.added ≡ text.old.added ++ flat_map (call_text ids.now reports.now) calls.now) }
+    ensures front { text.new.front ≡ text.old.front }
 {
     for call in calls {
-        call_text(alloc, into, ids, reports, call)?;
+        call_text(text, ids, reports, call)?;
     }
     Ok(())
 }
 
-// The line of a repeat.
-fn repeat_line(alloc: Global, id: u16, seq: u32, told: Told) -> Result<String, AllocError>
-    ensures { IfOk result (λ line. string_bytes line ≡ repeat_line id seq told) }
+// Adds the line of a repeat.
+#[tactic(auto, using(crate::proofs::Joining::grouped), unfolding(crate::specs::Lines::repeat_line))]
+fn repeat_line(text: &mut Text, id: u16, seq: u32, told: Told) -> Result<(), AllocError>
+    ensures ok { OnOk result (text.new.added ≡ text.old.added ++ repeat_line id seq told) }
+    ensures front { text.new.front ≡ text.old.front }
 {
-    format!(in alloc; "repeat source {id} block {seq} of {told}\n")
+    source_and_block(text, "repeat source ", id, seq)?;
+    text.put(b" of ")?;
+    told_text(text, told)?;
+    text.put(b"\n")
 }
 
-// Appends the lines of a taken block.
+// Adds the lines of a taken block.
 fn taken_text(
-    alloc: Global,
-    into: &mut Vec<u8>,
+    text: &mut Text,
     ids: &[u16],
     reports: &[Report],
     taken: &Taken,
 ) -> Result<(), AllocError>
     requires { IsSoundTaken taken.now }
-    ensures { OnOk result (into.new.items ≡ into.old.items ++ taken_text ids.now reports.now taken.now) }
+    ensures ok { OnOk result (text.new.added ≡ text.old.added ++ taken_text ids.now reports.now taken.now) }
+    ensures front { text.new.front ≡ text.old.front }
 {
     match taken {
         Taken::Delivered {
@@ -168,7 +188,7 @@ fn taken_text(
             seq,
             bytes,
             reported: Reported::New(_),
-        } => report_text(alloc, into, id_at(ids, *source), *seq, bytes.as_slice()),
+        } => report(text, id_at(ids, *source as usize), *seq, bytes.as_slice()),
         Taken::Delivered {
             source,
             seq,
@@ -176,38 +196,36 @@ fn taken_text(
             ..
         } => {
             let told = told_in(ids, reports, *number);
-            let line = repeat_line(alloc, id_at(ids, *source), *seq, told)?;
-            into.extend_from_slice(line.as_bytes())
+            repeat_line(text, id_at(ids, *source as usize), *seq, told)
         }
         Taken::Dropped {
             source,
             seq,
             bytes,
             reason,
-        } => drop_text(
-            alloc,
-            into,
-            id_at(ids, *source),
+        } => dropped(
+            text,
+            id_at(ids, *source as usize),
             *seq,
-            reason,
+            *reason,
             bytes.as_slice(),
         ),
     }
 }
 
-// Appends the lines of the taken blocks.
+// Adds the lines of the taken blocks.
 fn all_taken_text(
-    alloc: Global,
-    into: &mut Vec<u8>,
+    text: &mut Text,
     ids: &[u16],
     reports: &[Report],
     taken: &[Taken],
 ) -> Result<(), AllocError>
     requires { AllByRecursion IsSoundTaken taken.now }
-    ensures { OnOk result (into.new.items ≡ into.old.items ++ flat_map (taken_text ids.now reports.now) taken.now) }
+    ensures ok { OnOk result (text.new.added ≡ text.old.added ++ flat_map (taken_text ids.now reports.now) taken.now) }
+    ensures front { text.new.front ≡ text.old.front }
 {
     for entry in taken {
-        taken_text(alloc, into, ids, reports, entry)?;
+        taken_text(text, ids, reports, entry)?;
     }
     Ok(())
 }
@@ -222,10 +240,10 @@ fn between<T>(xs: &[T], from: u64, to: u64) -> &[T]
     rest.split_at(count.min(rest.len())).0
 }
 
-// Appends the lines of a script's line, from the counts before it to its mark.
+// Adds the lines of a script's line, from the counts before it to its mark.
+#[tactic(auto, using(crate::proofs::Joining::grouped))]
 fn line_text(
-    alloc: Global,
-    into: &mut Vec<u8>,
+    text: &mut Text,
     ids: &[u16],
     ledger: &Ledger,
     calls: u64,
@@ -233,28 +251,25 @@ fn line_text(
     mark: Mark,
 ) -> Result<(), AllocError>
     requires { AllByRecursion IsSoundTaken ledger.now.taken }
-    ensures { OnOk result (into.new.items ≡ into.old.items ++ line_text ids.now ledger.now calls taken mark) }
+    ensures ok { OnOk result (text.new.added ≡ text.old.added ++ line_text ids.now ledger.now calls taken mark) }
+    ensures front { text.new.front ≡ text.old.front }
 {
     let reports = ledger.reports();
     let made = between(ledger.calls(), calls, mark.calls);
-    calls_text(alloc, into, ids, reports, made)?;
+    calls_text(text, ids, reports, made)?;
     let ended = between(ledger.taken(), taken, mark.taken);
-    all_taken_text(alloc, into, ids, reports, ended)
+    all_taken_text(text, ids, reports, ended)
 }
 
-// Appends the lines of a replay.
-pub(crate) fn append_lines(
-    alloc: Global,
-    into: &mut Vec<u8>,
-    ids: &[u16],
-    ledger: &Ledger,
-) -> Result<(), AllocError>
+/// Adds the lines of a replay.
+pub(crate) fn add_lines(text: &mut Text, ids: &[u16], ledger: &Ledger) -> Result<(), AllocError>
     requires { AllByRecursion IsSoundTaken ledger.now.taken }
-    ensures { OnOk result (into.new.items ≡ into.old.items ++ lines_text ids.now ledger.now) }
+    ensures ok { OnOk result (text.new.added ≡ text.old.added ++ lines_text ids.now ledger.now) }
+    ensures front { text.new.front ≡ text.old.front }
 {
     let (mut calls, mut taken) = (0, 0);
     for mark in ledger.marks() {
-        line_text(alloc, into, ids, ledger, calls, taken, *mark)?;
+        line_text(text, ids, ledger, calls, taken, *mark)?;
         calls = mark.calls;
         taken = mark.taken;
     }

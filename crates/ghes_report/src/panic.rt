@@ -1,14 +1,15 @@
 //! The panic report of a ledger.
-ghost use Rattle.std.specs.Prelude.{◌≡◌, ◌++◌, OnOk, IfOk};
-ghost use Rattle.std.specs.String.{string_bytes};
+ghost use Rattle.std.specs.Prelude.{◌≡◌, ◌++◌, OnOk};
 ghost use Rattle.std.specs.List.{flat_map, AllByRecursion};
 ghost use Rattle.ghes_report.specs.Panic.{entry_line, entry_word, entry_text, panic_text};
 ghost use Rattle.ghes_report.specs.Sound.{IsSoundEntry};
 
+use crate::body::body_text;
 use crate::lines::id_at;
-use crate::report::{block_text, malformed_lines};
+use crate::report::{malformed, source_and_block};
+use crate::text::Text;
 use ghes_ledger::PanicEntry;
-use std::alloc::{AllocError, Global};
+use std::alloc::AllocError;
 
 // What a block of the panic list was.
 fn entry_word(fatal: bool) -> &'static str
@@ -17,62 +18,59 @@ fn entry_word(fatal: bool) -> &'static str
     if fatal { "fatal" } else { "pending" }
 }
 
-// The first line of a block in the panic report.
-fn entry_line(alloc: Global, word: &str, id: u16, seq: u32) -> Result<String, AllocError>
-    ensures { IfOk result (λ line. string_bytes line ≡ entry_line word.now id seq) }
+// Adds the first line of a block in the panic report.
+#[tactic(auto, using(crate::proofs::Joining::grouped), unfolding(crate::specs::Panic::entry_line))]
+fn entry_line(text: &mut Text, word: &str, id: u16, seq: u32) -> Result<(), AllocError>
+    ensures ok { OnOk result (text.new.added ≡ text.old.added ++ entry_line word.now id seq) }
+    ensures front { text.new.front ≡ text.old.front }
 {
-    format!(in alloc; "{word} source {id} block {seq}\n")
+    text.put(word.as_bytes())?;
+    source_and_block(text, " source ", id, seq)?;
+    text.put(b"\n")
 }
 
-// Appends the lines of a block in the panic report.
-fn entry_text(
-    alloc: Global,
-    into: &mut Vec<u8>,
-    ids: &[u16],
-    entry: &PanicEntry,
-) -> Result<(), AllocError>
+// Adds the lines of a block in the panic report.
+#[tactic(auto, using(crate::proofs::Joining::grouped))]
+fn entry_text(text: &mut Text, ids: &[u16], entry: &PanicEntry) -> Result<(), AllocError>
     requires { IsSoundEntry entry.now }
-    ensures { OnOk result (into.new.items ≡ into.old.items ++ entry_text ids.now entry.now) }
+    ensures ok { OnOk result (text.new.added ≡ text.old.added ++ entry_text ids.now entry.now) }
+    ensures front { text.new.front ≡ text.old.front }
 {
-    let id = id_at(ids, entry.source);
-    let line = entry_line(alloc, entry_word(entry.fatal), id, entry.seq)?;
-    into.extend_from_slice(line.as_bytes())?;
+    let id = id_at(ids, entry.source as usize);
+    entry_line(text, entry_word(entry.fatal), id, entry.seq)?;
     match &entry.reason {
-        Some(reason) => malformed_lines(alloc, into, reason, entry.bytes.as_slice()),
-        None => block_text(alloc, into, entry.bytes.as_slice()),
+        Some(reason) => malformed(text, *reason, entry.bytes.as_slice()),
+        None => body_text(text, entry.bytes.as_slice()),
     }
 }
 
-// Appends the lines of the blocks of a panic list.
-fn entries_text(
-    alloc: Global,
-    into: &mut Vec<u8>,
-    ids: &[u16],
-    entries: &[PanicEntry],
-) -> Result<(), AllocError>
+// Adds the lines of the blocks of a panic list.
+fn entries_text(text: &mut Text, ids: &[u16], entries: &[PanicEntry]) -> Result<(), AllocError>
     requires { AllByRecursion IsSoundEntry entries.now }
-    ensures { OnOk result (into.new.items ≡ into.old.items ++ flat_map (entry_text ids.now) entries.now) }
+    ensures ok { OnOk result (text.new.added ≡ text.old.added ++ flat_map (entry_text ids.now) entries.now) }
+    ensures front { text.new.front ≡ text.old.front }
 {
     for entry in entries {
-        entry_text(alloc, into, ids, entry)?;
+        entry_text(text, ids, entry)?;
     }
     Ok(())
 }
 
-// Appends the panic report: nothing, where the panic list is empty.
-pub(crate) fn append_panic(
-    alloc: Global,
-    into: &mut Vec<u8>,
+/// Adds the panic report: nothing, where the panic list is empty.
+#[tactic(auto, using(crate::proofs::Joining::grouped))]
+pub(crate) fn add_panic(
+    text: &mut Text,
     ids: &[u16],
     entries: &[PanicEntry],
 ) -> Result<(), AllocError>
     requires { AllByRecursion IsSoundEntry entries.now }
-    ensures { OnOk result (into.new.items ≡ into.old.items ++ panic_text ids.now entries.now) }
+    ensures ok { OnOk result (text.new.added ≡ text.old.added ++ panic_text ids.now entries.now) }
+    ensures front { text.new.front ≡ text.old.front }
 {
     if entries.is_empty() {
         return Ok(());
     }
-    into.extend_from_slice(b"panic\n")?;
-    entries_text(alloc, into, ids, entries)?;
-    into.extend_from_slice(b"end of panic\n")
+    text.put(b"panic\n")?;
+    entries_text(text, ids, entries)?;
+    text.put(b"end of panic\n")
 }

@@ -7,10 +7,11 @@ ghost use Rattle.ghes_report.specs.Replay.{replay_text};
 ghost use Rattle.ghes_report.specs.Sound.{IsSound, IsSoundTaken, IsSoundEntry};
 ghost use Rattle.ghes_report.specs.Summary.{summary_text};
 
-use crate::lines::append_lines;
-use crate::panic::append_panic;
-use crate::summary::append_summary;
-use ghes_ledger::Ledger;
+use crate::lines::add_lines;
+use crate::panic::add_panic;
+use crate::summary::add_summary;
+use crate::text::Text;
+use ghes_ledger::{Ledger, Summary};
 use std::alloc::{AllocError, Global};
 
 /// Appends the lines of a replay: of each line of its script in order, and of the end, the calls and then the blocks that it took.
@@ -27,9 +28,9 @@ pub fn lines_text(
     ensures ok { OnOk result (into.new.items ≡ into.old.items ++ lines_text ids.now ledger.now) }
     ensures err { OnErr result (into.new.items ≡ into.old.items) }
 {
-    let mut text = Vec::new(alloc);
-    append_lines(alloc, &mut text, ids, ledger)?;
-    into.extend_from_slice(&text)
+    let mut text = Text::open(alloc, into);
+    let done = add_lines(&mut text, ids, ledger);
+    text.close(into, done)
 }
 
 /// Appends the panic report of a ledger: nothing, where its panic list is empty.
@@ -46,35 +47,35 @@ pub fn panic_text(
     ensures ok { OnOk result (into.new.items ≡ into.old.items ++ panic_text ids.now ledger.now.panic) }
     ensures err { OnErr result (into.new.items ≡ into.old.items) }
 {
-    let mut text = Vec::new(alloc);
-    append_panic(alloc, &mut text, ids, ledger.panic())?;
-    into.extend_from_slice(&text)
+    let mut text = Text::open(alloc, into);
+    let done = add_panic(&mut text, ids, ledger.panic());
+    text.close(into, done)
 }
 
-/// Appends the summary of a ledger: a line for each source with how many blocks it raised, had acknowledged, and what became of
+/// Appends the text of a summary: a line for each source with how many blocks it raised, had acknowledged, and what became of
 /// them, and a line for the whole.
 ///
-/// `ids`, `raised` and `acknowledged` have an element for each source, in the order of their positions. After an error `into` is as
-/// it was. Source of the words: own choice.
+/// `ids`, `raised` and `acknowledged` have an element for each source of the summary, in order; what is missing is told as 0.
+/// After an error `into` is as it was. Source of the words: own choice.
 pub fn summary_text(
     alloc: Global,
     into: &mut Vec<u8>,
-    ledger: &Ledger,
+    summary: &Summary,
     ids: &[u16],
     raised: &[u32],
     acknowledged: &[u32],
 ) -> Result<(), AllocError>
-    ensures ok { OnOk result (into.new.items ≡ into.old.items ++ summary_text ids.now raised.now acknowledged.now ledger.now) }
+    ensures ok { OnOk result (into.new.items ≡ into.old.items ++ summary_text ids.now raised.now acknowledged.now summary.now) }
     ensures err { OnErr result (into.new.items ≡ into.old.items) }
 {
-    let mut text = Vec::new(alloc);
-    append_summary(alloc, &mut text, ids, raised, acknowledged, ledger)?;
-    into.extend_from_slice(&text)
+    let mut text = Text::open(alloc, into);
+    let done = add_summary(&mut text, summary, ids, raised, acknowledged);
+    text.close(into, done)
 }
 
 /// The text of a replay: its lines, the panic report, and the summary. It is a function of the ledger, and of the sources' ids and
 /// counts, and is made behind the run.
-#[tactic(auto, unfolding(crate::specs::Replay::replay_text))]
+#[tactic(auto, unfolding(crate::specs::Replay::replay_text), using(crate::proofs::Joining::grouped))]
 pub fn replay_text(
     alloc: Global,
     ledger: &Ledger,
@@ -85,9 +86,10 @@ pub fn replay_text(
     requires { IsSound ledger.now }
     ensures { IfOk result (λ text. text.items ≡ replay_text ids.now raised.now acknowledged.now ledger.now) }
 {
+    let summary = ledger.summary(alloc, ids.len())?;
     let mut text = Vec::new(alloc);
-    append_lines(alloc, &mut text, ids, ledger)?;
-    append_panic(alloc, &mut text, ids, ledger.panic())?;
-    append_summary(alloc, &mut text, ids, raised, acknowledged, ledger)?;
+    lines_text(alloc, &mut text, ledger, ids)?;
+    panic_text(alloc, &mut text, ledger, ids)?;
+    summary_text(alloc, &mut text, &summary, ids, raised, acknowledged)?;
     Ok(text)
 }

@@ -12,9 +12,9 @@ use crate::text::Text;
 use cper_block::Malformed;
 use std::alloc::{AllocError, Global};
 
-// Adds a source's id and a block's number behind a head.
+/// Adds a source's id and a block's number behind a head.
 #[tactic(auto, using(crate::proofs::Joining::grouped))]
-fn source_and_block(text: &mut Text, head: &str, id: u16, seq: u32) -> Result<(), AllocError>
+pub(crate) fn source_and_block(text: &mut Text, head: &str, id: u16, seq: u32) -> Result<(), AllocError>
     ensures ok { OnOk result (text.new.added ≡ text.old.added ++ head.now ++ decimal id ++ codes " block " ++ decimal seq) }
     ensures front { text.new.front ≡ text.old.front }
 {
@@ -49,9 +49,9 @@ fn reason_rest(text: &mut Text, reason: Malformed) -> Result<(), AllocError>
     }
 }
 
-// Adds the words for a malformed block.
+/// Adds the words for a malformed block.
 #[tactic(auto, using(crate::proofs::Joining::grouped))]
-fn reason_text(text: &mut Text, reason: Malformed) -> Result<(), AllocError>
+pub(crate) fn reason_text(text: &mut Text, reason: Malformed) -> Result<(), AllocError>
     ensures ok { OnOk result (text.new.added ≡ text.old.added ++ malformed_text reason) }
     ensures front { text.new.front ≡ text.old.front }
 {
@@ -80,9 +80,9 @@ fn drop_line(text: &mut Text, id: u16, seq: u32, reason: Malformed) -> Result<()
     reason_end(text, reason)
 }
 
-// Adds the text of a reported block.
+/// Adds the text of a reported block.
 #[tactic(auto, using(crate::proofs::Joining::grouped), unfolding(crate::specs::Report::report_text))]
-fn report(text: &mut Text, id: u16, seq: u32, block: &[u8]) -> Result<(), AllocError>
+pub(crate) fn report(text: &mut Text, id: u16, seq: u32, block: &[u8]) -> Result<(), AllocError>
     requires { Judges block.now largest_block None }
     ensures ok { OnOk result (text.new.added ≡ text.old.added ++ report_text id seq block.now) }
     ensures front { text.new.front ≡ text.old.front }
@@ -111,9 +111,9 @@ pub fn report_text(
     text.close(into, done)
 }
 
-// Adds the text of a dropped block.
+/// Adds the text of a dropped block.
 #[tactic(auto, using(crate::proofs::Joining::grouped), unfolding(crate::specs::Report::drop_text))]
-fn dropped(
+pub(crate) fn dropped(
     text: &mut Text,
     id: u16,
     seq: u32,
@@ -160,9 +160,9 @@ pub fn block_text(alloc: Global, into: &mut Vec<u8>, block: &[u8]) -> Result<(),
     text.close(into, done)
 }
 
-// Adds the lines of a malformed block.
+/// Adds the lines of a malformed block.
 #[tactic(auto, using(crate::proofs::Joining::grouped), unfolding(crate::specs::Report::malformed_lines, crate::specs::Report::reason_line))]
-fn malformed(text: &mut Text, reason: Malformed, bytes: &[u8]) -> Result<(), AllocError>
+pub(crate) fn malformed(text: &mut Text, reason: Malformed, bytes: &[u8]) -> Result<(), AllocError>
     ensures ok { OnOk result (text.new.added ≡ text.old.added ++ malformed_lines reason bytes.now) }
     ensures front { text.new.front ≡ text.old.front }
 {

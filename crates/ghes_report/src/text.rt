@@ -56,6 +56,15 @@ impl Text {
         self.put(buffer.format(number).as_bytes())
     }
 
+    /// Adds a count, in decimal digits.
+    pub(crate) fn put_count(&mut self, count: u64) -> Result<(), AllocError>
+        ensures ok { OnOk result (self.new.added ≡ self.old.added ++ decimal count) }
+        ensures front { self.new.front ≡ self.old.front }
+    {
+        let mut buffer = Buffer::new();
+        self.put(buffer.format(count).as_bytes())
+    }
+
     /// Gives the bytes back: with the text where it is done, and else as they were.
     #[tactic(auto, using(crate::proofs::GrownLemmas::front_and_added))]
     pub(crate) fn close(

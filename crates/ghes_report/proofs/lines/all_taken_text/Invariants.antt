@@ -4,4 +4,5 @@ use Rattle.ghes_report.specs.Lines.{taken_text}
 use Rattle.ghes_report.proofs.lines.all_taken_text.Given as goal
 
 abbrev pub invariant-loop-entry : goal.invariant-loop-entry
-invariant-loop-entry l = l.into.items ≡ l.fn.into.items ++ flat_map (taken_text l.ids l.reports) (take l.entry-index l.taken)
+invariant-loop-entry l =
+    (l.text.added ≡ l.fn.text.added ++ flat_map (taken_text l.ids l.reports) (take l.entry-index l.taken)) × (l.text.front ≡ l.fn.text.front)

@@ -5,8 +5,9 @@ use Rattle.ghes_report.proofs.summary.sources_text.Given as goal
 -- the lines so far and those of the sources that are left are all lines
 abbrev pub invariant-loop-position : goal.invariant-loop-position
 invariant-loop-position l =
-    l.into.items ++ sources_from l.position (drop l.position l.ids) l.raised l.acknowledged l.ledger
-    ≡ l.fn.into.items ++ sources_from 0 l.ids l.raised l.acknowledged l.ledger
+    (l.text.added ++ sources_from l.position l.ids l.raised l.acknowledged (drop l.position l.sources)
+    ≡ l.fn.text.added ++ sources_from 0 l.ids l.raised l.acknowledged l.sources)
+    × (l.text.front ≡ l.fn.text.front)
 
 abbrev pub decreases-loop-position : goal.decreases-loop-position
-decreases-loop-position l = length l.ids - l.position
+decreases-loop-position l = length l.sources - l.position

@@ -1,8 +1,0 @@
--- The pieces of the line, joined from the other side.
-use Rattle.std.proofs.Common.{rules, append_assoc}
-use Rattle.ghes_report.specs.Summary.{fates_line}
-use Rattle.ghes_report.proofs.summary.fates_line.Goals as goal
-
-pub returns : goal.returns
-unfolding fates_line
-returns c = search (rules, append_assoc)
