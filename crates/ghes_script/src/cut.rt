@@ -1,5 +1,4 @@
 //! Cuts bytes at the first of some marks: a script at a line feed, and a line at a space.
-ghost use Rattle.std.specs.Prelude.{IfSome};
 ghost use Rattle.ghes_script.specs.Cut.{IsCutAt};
 
 use memchr::memchr;
@@ -15,13 +14,4 @@ pub(crate) fn cut_at(mark: u8, bytes: &[u8]) -> (&[u8], &[u8])
         }
         None => bytes.split_at(bytes.len()),
     }
-}
-
-/// What stands before the first mark, if there is one, and what stands behind it: byte by byte, which is cheap where it is near.
-pub(crate) fn cut_near(mark: u8, bytes: &[u8]) -> Option<(&[u8], &[u8])>
-    ensures { IfSome result (λ found. IsCutAt mark bytes.now found.0.now found.1.now) }
-{
-    let end = bytes.iter().position(|byte| *byte == mark)?;
-    let (front, rest) = bytes.split_at(end);
-    Some((front, rest.split_at(1).1))
 }
