@@ -1,11 +1,12 @@
 -- A line that is `nmi`, one space and decimal digits.
-use Rattle.std.proofs.Common.{◌≡◌, ◌<◌, ◌≤◌, ◌^◌, ℕ, Bool, true, false, cond, ◌&&◌, ltb, leb, codes, List, [], ◌∷◌, ◌++◌, length, drop, append-nil, Some, None, Ok, inl, inr, refl, sym, ap, ◌∙◌, arith}
+use Rattle.std.proofs.Common.{◌≡◌, ◌<◌, ◌≤◌, ◌^◌, ℕ, Bool, true, false, cond, ◌&&◌, ltb, leb, codes, List, [], ◌∷◌, ◌++◌, length, drop, append-nil, Some, None, Ok, ◌⊎◌, inl, inr, refl, sym, ap, ◌∙◌, arith}
 use Rattle.std.specs.Char.{digit_value, is_digit}
 use Rattle.std.specs.List.{list_all}
 use Rattle.std.specs.Str.Parse.{AllDigits, digits_value}
-use Rattle.std.proofs.lemmas.Bool.{le-ltb, ltb-true}
+use Rattle.std.proofs.lemmas.Bool.{le-ltb, ltb-true, eqb-false}
 use Rattle.ghes_script.specs.Answer.{is_printable, in_order, words_answer, answer_of}
 use Rattle.ghes_script.specs.Asked.{nmi, asked_by, asked}
+use Rattle.ghes_script.specs.Cut.{IsCutAt}
 use Rattle.ghes_script.specs.Name.{command_of}
 use Rattle.ghes_script.specs.Number.{numeral, number_of, or_kind, ◌>>=◌}
 use Rattle.ghes_script.specs.Setup.{Setup, found_of, named, source_of}
@@ -34,7 +35,7 @@ all_digits (c ∷ cs) all =
     (ltb-true (digit_value c) 10 both.0, all_digits cs both.1)
 
 -- digits that spell a number: there is one at least
-numeral_digits : (word : List ℕ) (id : ℕ) → numeral 10 word ≡ Some id → (0 < length word) × AllDigits 10 word
+pub numeral_digits : (word : List ℕ) (id : ℕ) → numeral 10 word ≡ Some id → (0 < length word) × AllDigits 10 word
 unfolding numeral
 numeral_digits word id e =
     let test = passed (ltb 0 (length word) && (list_all (λ c. is_digit c 10) word && ltb (digits_value 10 word) (2 ^ 64))) (digits_value 10 word) id e in
@@ -43,7 +44,7 @@ numeral_digits word id e =
     (ltb-true 0 (length word) first.0, all_digits word second.0)
 
 -- decimal digits are a number
-number_is : (word : List ℕ) (id : ℕ) → AllDigits 10 word → numeral 10 word ≡ Some id → number_of word ≡ Some id
+pub number_is : (word : List ℕ) (id : ℕ) → AllDigits 10 word → numeral 10 word ≡ Some id → number_of word ≡ Some id
 unfolding number_of
 number_is word id all e = ap (λ b. cond b (cond (leb (length word) 18) (numeral 16 (drop 2 word)) None) (numeral 10 word)) (no_mark word all) ∙ e
 
@@ -75,3 +76,11 @@ calls setup text word id found short is spells there sofar =
     ∙ ap (λ b. cond b (words_answer setup sofar (words_of (codes "nmi " ++ word))) (Bad Unprintable)) (ap (λ xs. list_all is_printable (codes "nmi " ++ xs)) (sym (append-nil word)) ∙ printable_front word [] plain refl)
     ∙ ap (words_answer setup sofar) (words_are word digits.0 plain)
     ∙ ap (in_order sofar) (asks_nmi setup sofar word id found (number_is word id digits.1 spells) there)
+
+-- where such a line ends
+pub called_cut : (bytes behind word rest : List ℕ) → bytes ≡ codes "nmi " ++ behind → IsCutAt 10 behind word rest → IsCutAt 10 bytes (codes "nmi " ++ word) rest
+called_cut bytes behind word rest is cut =
+    record { unmarked = (eqb-false 110 10 refl, (eqb-false 109 10 refl, (eqb-false 105 10 refl, (eqb-false 32 10 refl, cut.unmarked)))); cut = by_cases cut.cut } where
+      by_cases : ((behind ≡ word ++ 10 ∷ rest) ⊎ ((behind ≡ word) × (rest ≡ []))) → ((bytes ≡ (codes "nmi " ++ word) ++ 10 ∷ rest) ⊎ ((bytes ≡ codes "nmi " ++ word) × (rest ≡ [])))
+      by_cases (inl e) = inl (is ∙ ap (λ xs. codes "nmi " ++ xs) e)
+      by_cases (inr e) = inr (is ∙ ap (λ xs. codes "nmi " ++ xs) e.0, e.1)

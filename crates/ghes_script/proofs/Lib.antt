@@ -4,6 +4,7 @@ pub mod FormLemmas
 pub mod InjectLemmas
 pub mod NumberLemmas
 pub mod OneReading
+pub mod RaisedLemmas
 pub mod Scanning
 pub mod SoundLemmas
 pub mod SpellBlocks

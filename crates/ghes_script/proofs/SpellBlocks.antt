@@ -49,7 +49,7 @@ plain_digit c e = by_test (leb 65 c && leb c 70) (leb 97 c && leb c 102) (leb 48
   by_test false false true p q r e = within 48 57 (omega arith) (omega arith) r
   by_test false false false p q r e = absurd (let no : false ≡ true = e in cc)
 
-plain_digits : (word : List ℕ) → AllByRecursion (λ c. is_hex_digit c ≡ true) word → Plain word
+pub plain_digits : (word : List ℕ) → AllByRecursion (λ c. is_hex_digit c ≡ true) word → Plain word
 plain_digits [] all = tt
 plain_digits (c ∷ cs) all = let bounds = plain_digit c all.0 in (bounds, plain_digits cs all.1)
 
@@ -79,7 +79,7 @@ block_word block bytes is =
     }
 
 -- the source and the word of a block are read
-reads_raised : (setup : Setup) (word text : List ℕ) (source : ℕ) → source_of setup word ≡ Ok source → raised setup (word ∷ text ∷ []) ≡ Ok (source, text)
+pub reads_raised : (setup : Setup) (word text : List ℕ) (source : ℕ) → source_of setup word ≡ Ok source → raised setup (word ∷ text ∷ []) ≡ Ok (source, text)
 unfolding raised
 reads_raised setup word text source e =
     let pair : ℕ → Result (ℕ × List ℕ) ScriptKind = λ s. Ok (s, text) in

@@ -1,7 +1,8 @@
 -- What one line answers (own choice).
-use Rattle.std.specs.Prelude.{ℕ, ◌==◌, ◌&&◌, nat_lt, nat_le, if◌then◌else◌, Bool, false, List, [], ◌∷◌, length, Result, Ok, Err}
+use Rattle.std.specs.Prelude.{◌≡◌, ℕ, ◌==◌, ◌&&◌, nat_lt, nat_le, if◌then◌else◌, Bool, false, List, [], ◌∷◌, length, Result, Ok, Err}
 use Rattle.std.specs.List.{list_all}
 use Rattle.ghes_script.specs.Asked.{asked}
+use Rattle.ghes_script.specs.Cut.{IsCutAt}
 use Rattle.ghes_script.specs.Setup.{Setup}
 use Rattle.ghes_script.specs.Sofar.{is_in_order}
 use Rattle.ghes_script.specs.Words.{words_of}
@@ -37,3 +38,9 @@ answer_of setup sofar text =
     if nat_lt 132000 (length text) then Bad TooLong
     else if list_all is_printable text then words_answer setup sofar (words_of text)
     else Bad Unprintable
+
+-- The first line of these bytes answers this behind the lines so far, and these bytes stand behind it.
+pub record IsFirstAnswer (setup : Setup) (sofar : Sofar) (bytes : List ℕ) (answer : Answer) (rest : List ℕ) : Type 0 where
+  pub text : List ℕ
+  pub cut : IsCutAt 10 bytes text rest
+  pub is : answer ≡ answer_of setup sofar text

@@ -1,12 +1,13 @@
 //! What one line of a script answers.
 ghost use Rattle.std.specs.Prelude.{◌≡◌, ◌≤◌, ◌&&◌, length, IfOk, IfSome};
 ghost use Rattle.std.specs.List.{list_all};
-ghost use Rattle.ghes_script.specs.Answer.{is_printable, is_comment, in_order, words_answer, answer_of};
+ghost use Rattle.ghes_script.specs.Answer.{is_printable, is_comment, in_order, words_answer, answer_of, IsFirstAnswer};
 ghost use Rattle.ghes_script.specs.Words.{words_of};
 ghost use Rattle.ghes_script.specs.declared.answer.Answer.TheVariants.{Asks};
-ghost use Rattle.ghes_script.specs.declared.line.What.TheVariants.{Nmi};
 
 use crate::args::asked;
+use crate::command::block_of;
+use crate::cut::cut_at;
 use crate::number::numeral;
 use crate::setup::Setup;
 use crate::sofar::Sofar;
@@ -97,21 +98,48 @@ fn words_answer(
     Ok(in_order(sofar, asked))
 }
 
-// The source that a line calls for which is `nmi`, one space and decimal digits: most lines are of this form, and their bytes need
-// not be looked at again.
-fn called(setup: &Setup<'_>, text: &[u8]) -> Option<usize>
-    requires { length text.now ≤ 132000 }
-    ensures { IfSome result (λ at. (sofar : Sofar) → answer_of setup.now sofar text.now ≡ Asks (Nmi at)) }
+// What the first line asks for that is `nmi`, one space and decimal digits, and what stands behind it: most lines are of this form,
+// and their bytes need not be looked at again.
+fn called<'a>(setup: &Setup<'_>, bytes: &'a [u8]) -> Option<(What, &'a [u8])>
+    ensures { IfSome result (λ found. (sofar : Sofar) → IsFirstAnswer setup.now sofar bytes.now (Asks found.0) found.1.now) }
 {
-    let word = text.strip_prefix(b"nmi ")?;
+    let behind = bytes.strip_prefix(b"nmi ")?;
+    let (word, rest) = cut_at(b'\n', behind);
+    if word.len() > 20 {
+        return None;
+    }
     let id = numeral(10, word)?;
     let found = setup.found(id)?;
-    Some(found.at)
+    Some((What::Nmi(found.at), rest))
 }
 
-/// What a line answers, without its line feed, behind those so far.
+// What a line asks for that is `raise`, one space, decimal digits, one space and a block: most other lines are of this form.
+fn raised(alloc: Global, setup: &Setup<'_>, text: &[u8]) -> Result<Option<What>, AllocError>
+    requires { length text.now ≤ 132000 }
+    ensures { IfOk result (λ found. IfSome found (λ what. (sofar : Sofar) → answer_of setup.now sofar text.now ≡ Asks what)) }
+{
+    let Some(behind) = text.strip_prefix(b"raise ") else {
+        return Ok(None);
+    };
+    let (word, hex) = cut_at(b' ', behind);
+    if hex.is_empty() {
+        return Ok(None);
+    }
+    let Some(id) = numeral(10, word) else {
+        return Ok(None);
+    };
+    let Some(found) = setup.found(id) else {
+        return Ok(None);
+    };
+    match block_of(alloc, hex)? {
+        Ok(block) => Ok(Some(What::Raise(found.at, block))),
+        Err(_) => Ok(None),
+    }
+}
+
+// What a line answers, without its line feed, behind those so far.
 #[tactic(auto, unfolding(crate::specs::Answer::answer_of))]
-pub(crate) fn answer_to(
+fn answer_to(
     alloc: Global,
     setup: &Setup<'_>,
     sofar: Sofar,
@@ -122,11 +150,28 @@ pub(crate) fn answer_to(
     if text.len() > LINE_LIMIT {
         return Ok(Answer::Bad(ScriptKind::TooLong));
     }
-    if let Some(source) = called(setup, text) {
-        return Ok(Answer::Asks(What::Nmi(source)));
+    if let Some(what) = raised(alloc, setup, text)? {
+        return Ok(Answer::Asks(what));
     }
     if !are_printable(text) {
         return Ok(Answer::Bad(ScriptKind::Unprintable));
     }
     words_answer(alloc, setup, sofar, text)
+}
+
+/// What the first line answers, behind those so far, and what stands behind it.
+pub(crate) fn first_answer<'a>(
+    alloc: Global,
+    setup: &Setup<'_>,
+    sofar: Sofar,
+    bytes: &'a [u8],
+) -> Result<(Answer, &'a [u8]), AllocError>
+    ensures { IfOk result (λ found. IsFirstAnswer setup.now sofar bytes.now found.0 found.1.now) }
+{
+    if let Some((what, rest)) = called(setup, bytes) {
+        return Ok((Answer::Asks(what), rest));
+    }
+    let (text, rest) = cut_at(b'\n', bytes);
+    let answer = answer_to(alloc, setup, sofar, text)?;
+    Ok((answer, rest))
 }

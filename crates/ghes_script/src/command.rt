@@ -29,9 +29,9 @@ fn is_block(bytes: &[u8]) -> bool
     bytes.len() >= 20 && bytes.len() <= 65_536 && LittleEndian::read_u32(bytes) != 0
 }
 
-// The block that a word spells.
+/// The block that a word spells.
 #[tactic(auto, unfolding(crate::specs::Asked::block_of))]
-fn block_of(alloc: Global, word: &[u8]) -> Result<Result<Bytes, ScriptKind>, AllocError>
+pub(crate) fn block_of(alloc: Global, word: &[u8]) -> Result<Result<Bytes, ScriptKind>, AllocError>
     ensures { IfOk result (λ read. read ≡ block_of word.now) }
 {
     match hex::decode(alloc, word) {

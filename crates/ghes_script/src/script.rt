@@ -3,8 +3,7 @@ ghost use Rattle.std.specs.Prelude.{◌≡◌, ◌<◌, ◌^◌, length, IfOk, I
 ghost use Rattle.ghes_script.specs.Setup.{setup_of};
 ghost use Rattle.ghes_script.specs.Script.{IsScript, Blames};
 
-use crate::answer::{Answer, answer_to};
-use crate::cut::cut_at;
+use crate::answer::{Answer, first_answer};
 use crate::setup::Setup;
 use crate::sofar::Sofar;
 use crate::{Line, ScriptError, SourceName};
@@ -47,10 +46,10 @@ impl Script {
         let mut number = 0;
         let mut rest = bytes;
         while !rest.is_empty() {
-            let (text, after) = cut_at(b'\n', rest);
+            let (answer, after) = first_answer(alloc, &setup, sofar, rest)?;
             number += 1;
             rest = after;
-            match answer_to(alloc, &setup, sofar, text)? {
+            match answer {
                 Answer::Skipped => continue,
                 Answer::Asks(what) => {
                     sofar = sofar.after(&what);
