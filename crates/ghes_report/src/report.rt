@@ -14,7 +14,12 @@ use std::alloc::{AllocError, Global};
 
 /// Adds a source's id and a block's number behind a head.
 #[tactic(auto, using(crate::proofs::Joining::grouped))]
-pub(crate) fn source_and_block(text: &mut Text, head: &str, id: u16, seq: u32) -> Result<(), AllocError>
+pub(crate) fn source_and_block(
+    text: &mut Text,
+    head: &str,
+    id: u16,
+    seq: u32,
+) -> Result<(), AllocError>
     ensures ok { OnOk result (text.new.added ≡ text.old.added ++ head.now ++ decimal id ++ codes " block " ++ decimal seq) }
     ensures front { text.new.front ≡ text.old.front }
 {
