@@ -4,9 +4,12 @@ mod FollowsLemmas
 mod FoundLemmas
 mod LedLemmas
 mod LineLemmas
+mod MidwayLemmas
 mod NmiFollows
 mod NmiLemmas
 mod OutcomeLemmas
+mod RunFollows
 mod RunningLemmas
 mod ScriptLemmas
 mod TiedLemmas
+mod TurnLemmas

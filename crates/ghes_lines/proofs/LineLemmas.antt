@@ -94,7 +94,7 @@ lawful_quiet plan n note before none few = record {
 abbrev pub taking_line : Plan → Asks → ℕ → List Executed → List PacketSeen → Executed
 taking_line plan asks n before packets = record { act = record { number = n; asks = asks }; made = []; calls = []; ends = []; peeks = []; taken = takings plan.places (clock_after before) (reports_in before) packets }
 
-names_now : (plan : Plan) (before : List Executed) (pending : List PacketSeen) → taken_names (taken_in before ++ takings plan.places (clock_after before) (reports_in before) pending) ≡ taken_names (taken_in before) ++ map name_of pending
+pub names_now : (plan : Plan) (before : List Executed) (pending : List PacketSeen) → taken_names (taken_in before ++ takings plan.places (clock_after before) (reports_in before) pending) ≡ taken_names (taken_in before) ++ map name_of pending
 names_now plan before pending =
     map-append _ (taken_in before) (takings plan.places (clock_after before) (reports_in before) pending)
     ∙ ap (λ xs. taken_names (taken_in before) ++ xs) (names-takings plan.places (clock_after before) (reports_in before) pending)

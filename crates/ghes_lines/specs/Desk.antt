@@ -1,5 +1,5 @@
 -- What a replay has between two lines beside the memory of its sources, and what a line makes of it.
-use Rattle.std.specs.Prelude.{◌≡◌, ◌⊎◌, ℕ, ◌+◌, List, [], ◌∷◌, ◌++◌, map, true, false, Option, Some, None}
+use Rattle.std.specs.Prelude.{◌≡◌, ◌⊎◌, ℕ, ◌+◌, ◌==◌, if◌then◌else◌, List, [], ◌∷◌, ◌++◌, map, true, false, Option, Some, None}
 use Rattle.apei_base.specs.Firmware.{Seen}
 use Rattle.ghes_call.specs.Call.{outcome_of}
 use Rattle.ghes_call.specs.Packet.{PacketSeen}
@@ -78,3 +78,21 @@ pub record IsNmi (receive : ReceiveSeen) (context s : ℕ) (port port' : Seen) (
   pub between : DeskSeen
   pub call : IsAnswered receive s port port' faults faults' desk between reply fatal
   pub desk_is : desk' ≡ panicked_by fatal (entered (record { context = context; source = s; now = desk.clock; reply = reply }) between)
+
+-- A call of a line with many, made by a context: it is not entered, and a fatal block makes the panic list.
+pub record IsTurn (receive : ReceiveSeen) (context s : ℕ) (port port' : Seen) (faults faults' : ℕ) (desk desk' : DeskSeen) (call : Call) : Type 0 where
+  pub fatal : Option PacketSeen
+  pub between : DeskSeen
+  pub call_is : call ≡ record { context = context; source = s; now = desk.clock; reply = call.reply }
+  pub answered : IsAnswered receive s port port' faults faults' desk between call.reply fatal
+  pub desk_is : desk' ≡ panicked_by fatal between
+
+-- these calls on a source, entered in order
+abbrev pub entered_on : ℕ → List Call → Kept → Kept
+entered_on s [] kept = kept
+entered_on s (call ∷ calls) kept = entered_on s calls (if call.source == s then record kept { calls = kept.calls ++ call ∷ [] } else kept)
+
+-- these calls, entered source by source
+abbrev pub entered_by : List ℕ → List Call → Kept → Kept
+entered_by [] calls kept = kept
+entered_by (s ∷ sources) calls kept = entered_by sources calls (entered_on s calls kept)

@@ -5,6 +5,7 @@ pub mod Found
 pub mod Injector
 pub mod Lines
 pub mod Machine
+pub mod Midway
 pub mod Pending
 pub mod Port
 pub mod Run

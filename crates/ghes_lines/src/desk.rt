@@ -1,15 +1,17 @@
 //! What a replay has between two lines beside the memory of its sources.
 ghost use Rattle.std.specs.Prelude.{◌≡◌, ◌≤◌, ◌<◌, ◌+◌, ◌==◌, ◌∷◌, ◌++◌, [], not, nat_le, map, option_map, length, IfOk, OnOk, Some};
+ghost use Rattle.std.specs.List.{range_with_len};
 ghost use Rattle.ghes_call.specs.Packet.{seen_of};
 ghost use Rattle.ghes_call.specs.Receive.{IsOfSource};
 ghost use Rattle.ghes_nmi.specs.Receive.{receive_seen};
-ghost use Rattle.ghes_lines.specs.Desk.{new_desk, drained, panicked, worked, panicked_by, marked, IsAnswered, IsNmi};
+ghost use Rattle.ghes_lines.specs.Desk.{new_desk, drained, panicked, worked, panicked_by, marked, entered_on, entered_by, IsAnswered, IsNmi, IsTurn};
+ghost use Rattle.ghes_lines.specs.Midway.{stopped_reply};
 
 use crate::calling::{Answer, Ask, call, look};
 use crate::machine::Source;
 use crate::pending::Pending;
 use crate::port::Port;
-use ghes_call::{Buffer, Call, Packet};
+use ghes_call::{AckState, Buffer, Call, Outcome, Packet, Reply};
 use ghes_ledger::{InjectionEnd, Ledger};
 use ghes_steps::Steps;
 use std::alloc::{AllocError, Global};
@@ -67,6 +69,32 @@ fn panic_rest(alloc: Global, packets: &[Packet], ledger: &mut Ledger) -> Result<
     while let Some((packet, behind)) = rest.split_first() {
         ledger.enter_panic(alloc, packet, false)?;
         rest = behind;
+    }
+    Ok(())
+}
+
+// Enters those of these calls that are on the source at a position, in order.
+fn enter_on(calls: &[Call], source: usize, ledger: &mut Ledger) -> Result<(), AllocError>
+    ensures { OnOk result (ledger.new ≡ entered_on source calls.now ledger.old) }
+{
+    let mut rest = calls;
+    while let Some((call, behind)) = rest.split_first() {
+        if usize::from(call.source) == source {
+            ledger.enter_call(*call)?;
+        }
+        rest = behind;
+    }
+    Ok(())
+}
+
+// Enters these calls on so many sources, source by source.
+fn enter_by(calls: &[Call], sources: usize, ledger: &mut Ledger) -> Result<(), AllocError>
+    ensures { OnOk result (ledger.new ≡ entered_by (range_with_len 0 sources) calls.now ledger.old) }
+{
+    let mut source = 0;
+    while source < sources {
+        enter_on(calls, source, ledger)?;
+        source += 1;
     }
     Ok(())
 }
@@ -165,6 +193,58 @@ impl Desk {
             None => Ok(()),
             Some(packet) => self.panic(alloc, &packet),
         }
+    }
+
+    /// One call by the context that serves the source, which is entered later; a fatal block makes the panic list.
+    pub(crate) fn turn<P: Port, L: ledger::Ledger>(
+        &mut self,
+        alloc: Global,
+        source: &Source,
+        at: u16,
+        port: &mut P,
+        steps: &mut Steps<L>,
+    ) -> Result<Call, AllocError>
+        requires source { IsOfSource (receive_seen source.now.receive) (P.seen port.old).layout }
+        requires header { 20 ≤ source.now.receive.limit }
+        requires limit { source.now.receive.limit ≤ self.old.block_len }
+        ensures ok { IfOk result (IsTurn (receive_seen source.now.receive) source.now.server at (P.seen port.old) (P.seen port.new)
+            (P.faults port.old) (P.faults port.new) self.old self.new) }
+        ensures room { self.new.block_len ≡ self.old.block_len }
+    {
+        let now = self.clock;
+        let Answer { reply, fatal } = self.call(alloc, source, at, port, steps)?;
+        if let Some(packet) = fatal {
+            self.panic(alloc, &packet)?;
+        }
+        Ok(Call {
+            context: source.server,
+            source: at,
+            now,
+            reply,
+        })
+    }
+
+    /// A call behind a fatal block: it looks at nothing.
+    pub(crate) fn stopped_call(&self, source: &Source, at: u16) -> Call
+        ensures { result ≡ record { context = source.now.server; source = at; now = self.now.clock; reply = stopped_reply } }
+    {
+        Call {
+            context: source.server,
+            source: at,
+            now: self.clock,
+            reply: Reply {
+                outcome: Outcome::Stopped,
+                ack: AckState::NotAsked,
+            },
+        }
+    }
+
+    /// Enters the calls of a line on so many sources, source by source.
+    pub(crate) fn enter_calls(&mut self, calls: &[Call], sources: usize) -> Result<(), AllocError>
+        ensures { OnOk result (self.new
+            ≡ record self.old { ledger = entered_by (range_with_len 0 sources) calls.now self.old.ledger }) }
+    {
+        enter_by(calls, sources, &mut self.ledger)
     }
 
     /// Marks that the line of this number was executed, or with 0 that the script has ended.

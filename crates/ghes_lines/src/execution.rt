@@ -9,6 +9,7 @@ use crate::executing::{clock, ended, fail, has_room, injected, nmi, peek, raise,
 use crate::injector::{Injected, Injector};
 use crate::machine::Machine;
 use crate::port::Port;
+use crate::running::run;
 use ghes_script::{Line, What};
 use ghes_steps::Steps;
 use std::alloc::Global;
@@ -52,7 +53,7 @@ pub fn execute<P: Port, I: Injector, L: ledger::Ledger>(
         What::Work => work(alloc, machine, ports, desk, number)?,
         What::Peek(at) => peek(machine, ports, desk, number, *at)?,
         What::Fail(at, access) => fail(machine, ports, desk, number, *at, *access)?,
-        What::Run(_) => return Err(Stop::OutOfMemory),
+        What::Run(n) => run(alloc, machine, ports, desk, number, *n, steps)?,
         _ => setting(machine, ports, desk, number)?,
     }
     Ok(())

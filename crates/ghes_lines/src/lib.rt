@@ -15,6 +15,7 @@ mod machine;
 mod pending;
 mod port;
 mod run;
+mod running;
 
 pub use desk::Desk;
 pub use error::Stop;

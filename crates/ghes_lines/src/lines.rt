@@ -1,9 +1,9 @@
 //! What each line does.
-ghost use Rattle.std.specs.Prelude.{◌≡◌, ◌<◌, ◌≤◌, ◌+◌, ◌-◌, ◌^◌, [], length, slice_get, unwrap_or, Some, OnOk};
+ghost use Rattle.std.specs.Prelude.{◌≡◌, ◌<◌, ◌≤◌, ◌+◌, ◌-◌, ◌^◌, [], length, slice_get, unwrap_or, Some, IfOk, OnOk};
 ghost use Rattle.apei_base.specs.Firmware.{IsRaised};
 ghost use Rattle.ghes_call.specs.Receive.{IsOfSource};
 ghost use Rattle.ghes_nmi.specs.Receive.{receive_seen};
-ghost use Rattle.ghes_lines.specs.Desk.{IsNmi};
+ghost use Rattle.ghes_lines.specs.Desk.{IsNmi, IsTurn};
 ghost use Rattle.ghes_lines.specs.Lines.{IsAt};
 ghost use Rattle.fw_port.specs.Port.{raised};
 ghost use Rattle.ghes_lines.specs.Port.{IsPlanned, ack_cell_of};
@@ -12,6 +12,7 @@ ghost use Rattle.ghes_lines.specs.declared.machine.Source.{Source};
 use crate::desk::Desk;
 use crate::machine::Source;
 use crate::port::Port;
+use ghes_call::Call;
 use ghes_steps::Steps;
 use std::alloc::{AllocError, Global};
 use std::sync::ledger;
@@ -72,4 +73,25 @@ pub(crate) fn nmi_at<P: Port, L: ledger::Ledger>(
     ensures room { desk.new.block_len ≡ desk.old.block_len }
 {
     desk.nmi(alloc, source, at, &mut ports[usize::from(at)], steps)
+}
+
+/// One call of a line with many, on the source at a position.
+pub(crate) fn turn_at<P: Port, L: ledger::Ledger>(
+    alloc: Global,
+    source: &Source,
+    at: u16,
+    ports: &mut [P],
+    desk: &mut Desk,
+    steps: &mut Steps<L>,
+) -> Result<Call, AllocError>
+    requires within { at < length ports.old }
+    requires source { (port : P) → slice_get ports.old at ≡ Some port → IsOfSource (receive_seen source.now.receive) (P.seen port).layout }
+    requires header { 20 ≤ source.now.receive.limit }
+    requires limit { source.now.receive.limit ≤ desk.old.block_len }
+    ensures ok { IfOk result (λ call. IsAt at ports.old ports.new (λ before after.
+        IsTurn (receive_seen source.now.receive) source.now.server at (P.seen before) (P.seen after)
+        (P.faults before) (P.faults after) desk.old desk.new call)) }
+    ensures room { desk.new.block_len ≡ desk.old.block_len }
+{
+    desk.turn(alloc, source, at, &mut ports[usize::from(at)], steps)
 }
