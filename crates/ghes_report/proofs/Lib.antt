@@ -1,10 +1,12 @@
+mod BetweenLemmas
 mod DigitLemmas
 mod FieldLemmas
 mod GrownLemmas
 mod Joining
+pub mod LawfulLemmas
 pub mod OwnBytes
 mod ShownLemmas
-mod WholeLemmas
 mod SoundLemmas
 mod SummaryLemmas
-mod BetweenLemmas
+mod TurnLemmas
+mod WholeLemmas

@@ -29,9 +29,9 @@ fn told_text(text: &mut Text, told: Told) -> Result<(), AllocError>
     source_and_block(text, "source ", told.id, told.seq)
 }
 
-// Adds a word and a number.
+/// Adds a word and a number.
 #[tactic(auto, using(crate::proofs::Joining::grouped))]
-fn numbered(text: &mut Text, word: &str, number: u32) -> Result<(), AllocError>
+pub(crate) fn numbered(text: &mut Text, word: &str, number: u32) -> Result<(), AllocError>
     ensures ok { OnOk result (text.new.added ≡ text.old.added ++ word.now ++ decimal number) }
     ensures front { text.new.front ≡ text.old.front }
 {
@@ -127,8 +127,8 @@ fn call_line(
     text.put(b"\n")
 }
 
-// Adds the line of a call, by the ids of the sources and the reports.
-fn call_text(
+/// Adds the line of a call, by the ids of the sources and the reports.
+pub(crate) fn call_text(
     text: &mut Text,
     ids: &[u16],
     reports: &[Report],
@@ -143,8 +143,8 @@ fn call_text(
     call_line(text, id, told, reply.outcome, reply.ack)
 }
 
-// Adds the lines of the calls.
-fn calls_text(
+/// Adds the lines of the calls.
+pub(crate) fn calls_text(
     text: &mut Text,
     ids: &[u16],
     reports: &[Report],
@@ -171,8 +171,8 @@ fn repeat_line(text: &mut Text, id: u16, seq: u32, told: Told) -> Result<(), All
     text.put(b"\n")
 }
 
-// Adds the lines of a taken block.
-fn taken_text(
+/// Adds the lines of a taken block.
+pub(crate) fn taken_text(
     text: &mut Text,
     ids: &[u16],
     reports: &[Report],
@@ -213,8 +213,8 @@ fn taken_text(
     }
 }
 
-// Adds the lines of the taken blocks.
-fn all_taken_text(
+/// Adds the lines of the taken blocks.
+pub(crate) fn all_taken_text(
     text: &mut Text,
     ids: &[u16],
     reports: &[Report],
@@ -230,9 +230,9 @@ fn all_taken_text(
     Ok(())
 }
 
-// What stands in a list from one count to another.
+/// What stands in a list from one count to another.
 #[tactic(auto, using(crate::proofs::BetweenLemmas::dropped_min, crate::proofs::BetweenLemmas::taken_min))]
-fn between<T>(xs: &[T], from: u64, to: u64) -> &[T]
+pub(crate) fn between<T>(xs: &[T], from: u64, to: u64) -> &[T]
     ensures { result.now ≡ between from to xs.now }
 {
     let (_before, rest) = xs.split_at((from as usize).min(xs.len()));

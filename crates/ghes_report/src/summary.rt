@@ -9,9 +9,9 @@ use crate::text::Text;
 use ghes_ledger::{SourceSummary, Summary};
 use std::alloc::AllocError;
 
-// Adds a count behind its words.
+/// Adds a count behind its words.
 #[tactic(auto, using(crate::proofs::Joining::grouped))]
-fn counted(text: &mut Text, words: &str, count: u64) -> Result<(), AllocError>
+pub(crate) fn counted(text: &mut Text, words: &str, count: u64) -> Result<(), AllocError>
     ensures ok { OnOk result (text.new.added ≡ text.old.added ++ words.now ++ decimal count) }
     ensures front { text.new.front ≡ text.old.front }
 {

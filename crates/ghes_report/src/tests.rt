@@ -2,6 +2,7 @@
 mod blocks;
 mod entries;
 mod memory;
+mod script;
 mod sections;
 
 use crate::block_text;
