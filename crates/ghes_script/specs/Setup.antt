@@ -1,5 +1,5 @@
 -- What a script is read for, and which source a word names (own choice).
-use Rattle.std.specs.Prelude.{◌≡◌, ℕ, ◌+◌, ◌==◌, if◌then◌else◌, Bool, List, [], ◌∷◌, Option, Some, None, Result, Ok, Err}
+use Rattle.std.specs.Prelude.{◌≡◌, ℕ, ◌+◌, ◌<◌, ◌==◌, if◌then◌else◌, Bool, List, [], ◌∷◌, length, slice_index_or, Option, Some, None, Result, Ok, Err}
 use Rattle.std.specs.Ordering.{nat_cmp}
 use Rattle.std.specs.BTreeMap.{BTreeMap, get}
 use Rattle.ghes_script.specs.Number.{number, or_kind, ◌>>=◌}
@@ -29,6 +29,10 @@ found_of names id = found_from 0 names id
 -- a map has the sources by their ids
 abbrev pub Knows : BTreeMap ℕ Found → List SourceName → Type 0
 Knows by_id names = (id : ℕ) → get nat_cmp by_id id ≡ found_of names id
+
+-- a table has, at each of its places, what a map has of that id
+abbrev pub IsTableOf : List (Option Found) → BTreeMap ℕ Found → Type 0
+IsTableOf table by_id = (id : ℕ) → id < length table → slice_index_or table id None ≡ get nat_cmp by_id id
 
 -- the source that a word names: no number is the one kind, and a number that is no such id the other
 unfoldable pub named : Setup → List ℕ → Result Found ScriptKind

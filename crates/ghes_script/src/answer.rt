@@ -7,7 +7,7 @@ ghost use Rattle.ghes_script.specs.declared.answer.Answer.TheVariants.{Asks};
 
 use crate::args::asked;
 use crate::command::block_of;
-use crate::cut::cut_at;
+use crate::cut::{cut_at, cut_near};
 use crate::number::numeral;
 use crate::setup::Setup;
 use crate::sofar::Sofar;
@@ -104,7 +104,7 @@ fn called<'a>(setup: &Setup<'_>, bytes: &'a [u8]) -> Option<(What, &'a [u8])>
     ensures { IfSome result (λ found. (sofar : Sofar) → IsFirstAnswer setup.now sofar bytes.now (Asks found.0) found.1.now) }
 {
     let behind = bytes.strip_prefix(b"nmi ")?;
-    let (word, rest) = cut_at(b'\n', behind);
+    let (word, rest) = cut_near(b'\n', behind);
     if word.len() > 20 {
         return None;
     }

@@ -1,6 +1,6 @@
 //! What a script is read for: the enabled sources, and whether errors can be injected.
 ghost use Rattle.std.specs.Prelude.{◌≡◌, ◌==◌, length, IfOk};
-ghost use Rattle.ghes_script.specs.Setup.{Knows, found_of, named, source_of, acked_source_of, setup_of};
+ghost use Rattle.ghes_script.specs.Setup.{Knows, IsTableOf, found_of, named, source_of, acked_source_of, setup_of};
 
 use crate::ScriptKind;
 use crate::number::number;
@@ -26,16 +26,20 @@ pub(crate) struct Found {
 #[derive(Debug, Drop)]
 pub(crate) struct Setup<'a> {
     names: &'a [SourceName],
+    table: Vec<Option<Found>>,
     by_id: BTreeMap<u64, Found>,
     injection: bool,
 }
 
+/// An id below this is looked up in a table, and any other in a map.
+const TABLE: u64 = 256;
+
 impl<'a> Model for Setup<'a> {
-    ghost use Rattle.ghes_script.specs.Setup.{Setup, Knows};
+    ghost use Rattle.ghes_script.specs.Setup.{Setup, Knows, IsTableOf};
 
     ghost Value = { Setup };
 
-    ghost invariant = { λ s. Knows s.by_id s.names.now };
+    ghost invariant = { λ s. Knows s.by_id s.names.now × IsTableOf s.table.items s.by_id };
 
     ghost view = { λ s. record { names = s.names.now; injection = s.injection } };
 }
@@ -55,6 +59,19 @@ fn positions(alloc: Global, names: &[SourceName]) -> Result<BTreeMap<u64, Found>
     Ok(by_id)
 }
 
+// What the map has of each id from 0 on, up to those that the map is asked for.
+fn table_of(alloc: Global, by_id: &BTreeMap<u64, Found>) -> Result<Vec<Option<Found>>, AllocError>
+    ensures { IfOk result (λ table. IsTableOf table.items by_id.now) }
+{
+    let mut table = Vec::new(alloc);
+    let mut id = 0;
+    while id < TABLE {
+        table.push(by_id.get(&id).copied())?;
+        id += 1;
+    }
+    Ok(table)
+}
+
 impl<'a> Setup<'a> {
     /// The sources by their names, and whether there is an injection table.
     pub fn new(
@@ -65,8 +82,10 @@ impl<'a> Setup<'a> {
         ensures { IfOk result (λ setup. setup ≡ setup_of names.now injection) }
     {
         let by_id = positions(alloc, names)?;
+        let table = table_of(alloc, &by_id)?;
         Ok(Setup {
             names,
+            table,
             by_id,
             injection,
         })
@@ -76,6 +95,10 @@ impl<'a> Setup<'a> {
     pub fn found(&self, id: u64) -> Option<Found>
         ensures { result ≡ found_of self.now.names id }
     {
+        let place = id as usize;
+        if place < self.table.len() {
+            return self.table[place];
+        }
         self.by_id.get(&id).copied()
     }
 

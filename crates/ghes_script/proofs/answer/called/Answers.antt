@@ -8,11 +8,11 @@ use Rattle.ghes_script.proofs.answer.called.Goals as goal
 pub returns : goal.returns
 returns c = λ sofar.
     let bytes = c.args.bytes.now in
-    let word = c.cut_at.result.0.now in
+    let word = c.cut_near.result.0.now in
     let behind = c.in_ok-behind.behind in
     let prefix = strip_prefix_is Decides-eqb bytes (codes "nmi ") (Some behind) c.in_ok-behind.ensures.cases in
     record {
       text = codes "nmi " ++ word;
-      cut = called_cut bytes behind.now word c.cut_at.result.1.now prefix c.cut_at.ensures;
+      cut = called_cut bytes behind.now word c.cut_near.result.1.now prefix c.cut_near.ensures;
       is = sym (calls c.args.setup.now (codes "nmi " ++ word) word c.in_ok-id.id c.in_ok-found.found (omega arith) refl (sym c.in_ok-id.ensures) (sym c.in_ok-found.ensures) sofar);
     }
