@@ -1,5 +1,5 @@
 //! Puts and hits that a person worked out from the rules, and looks beside reports.
-ghost use Rattle.std.specs.Prelude.{◌≡◌, ◌≤◌, ◌<◌, ◌+◌, length};
+ghost use Rattle.std.specs.Prelude.{◌≡◌, ◌≤◌, ◌<◌, ◌+◌, ◌-◌, ◌^◌, length};
 
 use crate::{Cache, ThrottleReader, ThrottleWriter, throttle};
 use std::alloc::{AllocError, Global};
@@ -176,5 +176,32 @@ fn a_report_after_a_refused_one_succeeds(rt: HostRuntime) -> Result<(), Fail> {
     let seen = readers[0].look(&block(2), 0);
     writer.end(&rt);
     assert_eq!(rt; (first, second, third, seen), (1, 2, 3, Some(2)));
+    Ok(())
+}
+
+/// The number of the last of so many reports, or 0 where one was refused.
+fn last_number<R: Wait>(rt: &R, writer: &mut ThrottleWriter, bytes: &[u8], times: usize) -> u64
+    requires fits { length bytes.now ≤ writer.old.block_len }
+    requires few { length writer.old.list + times < 2 ^ 64 - 1 }
+{
+    let mut last = 0;
+    for _ in 0..times {
+        match writer.report(rt, bytes, 0) {
+            Ok(number) => last = number,
+            Err(_) => return 0,
+        }
+    }
+    last
+}
+
+/// A body that gives up above some size meets each clause.
+#[test]
+fn large_blocks_many_reports_and_many_readers_find_memory(rt: HostRuntime) -> Result<(), Fail> {
+    let bytes = vec![in rt.alloc(); 7u8; 65_536]?;
+    let (mut writer, mut readers) = throttle(&rt, rt.alloc(), 65_536, 64)?;
+    let last = last_number(&rt, &mut writer, &bytes, 1000);
+    let seen = readers[63].look(&bytes, 0);
+    writer.end(&rt);
+    assert_eq!(rt; (last, seen), (1000, Some(1000)));
     Ok(())
 }
