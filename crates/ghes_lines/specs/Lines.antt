@@ -1,13 +1,16 @@
 -- What the lines of a script ask for, what they may ask for, and how a replay goes on by one.
 use Rattle.std.specs.Prelude.{◌≡◌, ◌<◌, ◌≤◌, ℕ, List, [], ◌∷◌, length, slice_get, slice_set, Some}
 use Rattle.apei_base.specs.Firmware.{Seen, IsRaised}
+use Rattle.apei_einj.specs.declared.request.Request.{Request}
 use Rattle.ghes_ledger.specs.Asks.{Setting, Clock, Fail, Peek, Asks, Quiet, Makes, Injects, Calls, Runs, Drains}
 use Rattle.ghes_ledger.specs.History.{Act, Executed}
 use Rattle.ghes_script.specs.declared.line.Line.{Line}
 use Rattle.ghes_script.specs.declared.line.What.{What}
 use Rattle.ghes_script.specs.declared.line.What.TheVariants as asks
 use Rattle.ghes_lines.specs.Desk.{DeskSeen}
-use Rattle.ghes_lines.specs.Follows.{Follows}
+use Rattle.ghes_lines.specs.Follows.{blocks_in, Follows}
+use Rattle.ghes_lines.specs.Injector.{IsTold}
+use Rattle.ghes_lines.specs.declared.injector.Injected.{Injected}
 use Rattle.ghes_lines.specs.declared.error.Stop.{Stop}
 use Rattle.ghes_lines.specs.declared.error.Stop.TheVariants.{Full, OutOfMemory}
 use Rattle.ghes_lines.specs.declared.machine.Machine.{Machine}
@@ -56,16 +59,33 @@ pub record IsLed {P : Type 0} (seen : P → Seen) (faults : P → ℕ) (machine 
   pub history : List Executed
   pub follows : Follows seen faults machine ports desk history
 
--- the history goes on by a line that asks for this
+-- The history goes on by a line that asks for this; one that made a block found fewer than a machine may have.
 pub record GoesOn {P : Type 0} (seen : P → Seen) (faults : P → ℕ) (machine : Machine) (act : Act) (ports : List P) (desk : DeskSeen) (before : List Executed) : Type 0 where
   pub line : Executed
   pub act_is : line.act ≡ act
+  pub room : (line.made ≡ [] → ⊥) → length (blocks_in before) < 65536
   pub follows : Follows seen faults machine ports desk (line ∷ before)
 
 -- each history that leads to what the replay had goes on by a line that asks for this
 abbrev pub Executes : {P : Type 0} → (P → Seen) → (P → ℕ) → Machine → Act → List P → DeskSeen → List P → DeskSeen → Type 0
 Executes seen faults machine act ports desk ports' desk' =
     (before : List Executed) → Follows seen faults machine ports desk before → GoesOn seen faults machine act ports' desk' before
+
+-- the history goes on by a line that asks for this and tells this
+pub record GoesOnTelling {P : Type 0} (tells : Executed → Type 0) (seen : P → Seen) (faults : P → ℕ) (machine : Machine) (act : Act) (ports : List P) (desk : DeskSeen) (before : List Executed) : Type 0 where
+  pub goes : GoesOn seen faults machine act ports desk before
+  pub told : tells goes.line
+
+abbrev pub ExecutesTelling : {P : Type 0} → (Executed → Type 0) → (P → Seen) → (P → ℕ) → Machine → Act → List P → DeskSeen → List P → DeskSeen → Type 0
+ExecutesTelling tells seen faults machine act ports desk ports' desk' =
+    (before : List Executed) → Follows seen faults machine ports desk before → GoesOnTelling tells seen faults machine act ports' desk' before
+
+-- a line that asks for an injection is a step of what makes them, and tells what it made; no other line is one
+abbrev pub InjectsBy : {P S : Type 0} → (P → Seen) → (P → ℕ) → (S → Request → Injected → S → Type 0) → Machine → ℕ → What → S → List P → DeskSeen → S → List P → DeskSeen → Type 0
+InjectsBy seen faults does machine number (asks.Inject request) first ports desk last ports' desk' =
+    (injected : Injected) × does first request injected last
+    × ExecutesTelling (IsTold injected) seen faults machine (record { number = number; asks = Injects }) ports desk ports' desk'
+InjectsBy seen faults does machine number _ first ports desk last ports' desk' = last ≡ first
 
 -- a line makes a block, or may make one
 abbrev pub MakesBlock : What → Type 0

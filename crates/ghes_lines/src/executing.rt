@@ -3,9 +3,10 @@ ghost use Rattle.std.specs.Prelude.{◌≡◌, ◌<◌, ◌≤◌, [], length, I
 ghost use Rattle.apei_base.specs.Firmware.{IsRaised};
 ghost use Rattle.ghes_ledger.specs.Asks.{Setting, Clock, Fail, Peek, Quiet, Makes, Injects, Calls, Drains};
 ghost use Rattle.ghes_ledger.specs.History.{script_end};
-ghost use Rattle.ghes_lines.specs.Injector.{IsWithoutBlock};
+ghost use Rattle.ghes_lines.specs.Injector.{IsTold, IsWithoutBlock};
+ghost use Rattle.ghes_lines.specs.declared.injector.Injected.TheVariants.{Made, Ended};
 ghost use Rattle.ghes_lines.specs.declared.error.Stop.TheVariants.{Full};
-ghost use Rattle.ghes_lines.specs.Lines.{IsLed, Executes};
+ghost use Rattle.ghes_lines.specs.Lines.{IsLed, Executes, ExecutesTelling};
 ghost use Rattle.ghes_lines.specs.Machine.{IsMachine};
 
 use crate::desk::Desk;
@@ -186,6 +187,8 @@ pub(crate) fn injected<P: Port>(
     requires running { desk.old.ledger.panic ≡ [] }
     requires led { IsLed P.seen P.faults machine.now ports.old desk.old }
     ensures ok { OnOk result (Executes P.seen P.faults machine.now (record { number = number; asks = Injects }) ports.old desk.old ports.new desk.new) }
+    ensures told { OnOk result (ExecutesTelling (IsTold (Made source block.now)) P.seen P.faults machine.now
+        (record { number = number; asks = Injects }) ports.old desk.old ports.new desk.new) }
     ensures block_len { OnOk result (desk.new.block_len ≡ desk.old.block_len) }
 {
     let at = usize::from(source);
@@ -207,6 +210,8 @@ pub(crate) fn ended<P: Port>(
     requires none { IsWithoutBlock end }
     requires running { desk.old.ledger.panic ≡ [] }
     ensures ok { OnOk result (Executes P.seen P.faults machine.now (record { number = number; asks = Injects }) ports.old desk.old ports.new desk.new) }
+    ensures told { OnOk result (ExecutesTelling (IsTold (Ended end)) P.seen P.faults machine.now
+        (record { number = number; asks = Injects }) ports.old desk.old ports.new desk.new) }
     ensures block_len { OnOk result (desk.new.block_len ≡ desk.old.block_len) }
 {
     desk.end_injection(end)?;

@@ -1,6 +1,6 @@
 //! Executes the lines of a script, from nothing to a lawful ledger.
 ghost use Rattle.std.specs.Prelude.{◌≡◌, [], length, IfErr, OnOk};
-ghost use Rattle.ghes_lines.specs.Lines.{act_of, IsAllowed, IsLed, Executes, IsStopAt};
+ghost use Rattle.ghes_lines.specs.Lines.{act_of, IsAllowed, IsLed, Executes, InjectsBy, IsStopAt};
 ghost use Rattle.ghes_lines.specs.Machine.{IsMachine};
 
 use crate::desk::Desk;
@@ -31,6 +31,8 @@ pub fn execute<P: Port, I: Injector, L: ledger::Ledger>(
     requires running { desk.old.ledger.panic ≡ [] }
     requires led { IsLed P.seen P.faults machine.now ports.old desk.old }
     ensures ok { OnOk result (Executes P.seen P.faults machine.now (act_of line.now) ports.old desk.old ports.new desk.new) }
+    ensures injected { OnOk result (InjectsBy P.seen P.faults I.does machine.now line.now.number line.now.what
+        (I.state injector.old) ports.old desk.old (I.state injector.new) ports.new desk.new) }
     ensures full { IfErr result (IsStopAt line.now desk.old.blocks) }
     ensures injects { I.sources injector.new ≡ I.sources injector.old }
     ensures block_len { OnOk result (desk.new.block_len ≡ desk.old.block_len) }

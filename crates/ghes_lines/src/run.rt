@@ -1,7 +1,7 @@
 //! A run of the lines of a script, from nothing to a lawful ledger.
-ghost use Rattle.std.specs.Prelude.{◌≡◌, map, length, IfOk, IfErr};
+ghost use Rattle.std.specs.Prelude.{◌≡◌, length, IfOk, IfErr};
 ghost use Rattle.std.specs.List.{AllByRecursion};
-ghost use Rattle.ghes_lines.specs.Lines.{act_of, IsAllowed};
+ghost use Rattle.ghes_lines.specs.Lines.{IsAllowed};
 ghost use Rattle.ghes_lines.specs.Machine.{IsMachine};
 ghost use Rattle.ghes_lines.specs.Run.{AreFresh, IsRun, IsStopOf};
 
@@ -34,8 +34,8 @@ pub fn run_lines<P: Port, I: Injector, L: ledger::Ledger>(
     requires allowed { AllByRecursion (λ line. IsAllowed machine.now line.what) lines.now }
     requires injects { I.sources injector.old ≡ length machine.now.sources.items }
     requires fresh { AreFresh P.seen machine.now ports.old }
-    ensures ok { IfOk result (λ ledger. IsRun P.seen P.faults machine.now (map act_of lines.now) ports.new ledger) }
-    ensures err { IfErr result (IsStopOf P.seen P.faults machine.now lines.now) }
+    ensures ok { IfOk result (IsRun P.seen P.faults I.does machine.now lines.now (I.state injector.old) (I.state injector.new) ports.new) }
+    ensures err { IfErr result (IsStopOf P.seen P.faults I.does machine.now (I.state injector.old) lines.now) }
 {
     let mut desk = Desk::new(alloc, usize::from(machine.slots), block_len)?;
     let mut next = 0;

@@ -12,5 +12,5 @@ returns-clause-ok g c =
     let machine = c.args.machine.now in
     let desk = c.args.desk.now in
     on_ok _ _ c.mark.result
-    (λ is before f. goes_on seen faults machine _ c.args.ports.now _ _ before _ refl (is ∙ ap (marked c.args.number) c.set_clock.ensures) (follows_clock seen faults machine c.args.ports.now desk before c.args.number c.args.time c.requires.running f))
+    (λ is before f. goes_on seen faults machine _ c.args.ports.now _ _ before _ refl refl (is ∙ ap (marked c.args.number) c.set_clock.ensures) (follows_clock seen faults machine c.args.ports.now desk before c.args.number c.args.time c.requires.running f))
     c.mark.ensures

@@ -13,6 +13,6 @@ returns-clause-ok g c =
     let desk = c.args.desk.now in
     let at = c.in_ok-fail_at.ensures in
     on_ok _ _ c.mark.result
-    (λ is before f. goes_at seen faults machine _ _ _ _ _ before _ refl at.now is
+    (λ is before f. goes_at seen faults machine _ _ _ _ _ before _ refl refl at.now is
     (follows_fail seen faults machine c.args.ports.now desk before c.args.number c.args.at at.port at.port' at.there at.did.0 at.did.1 c.requires.running f))
     c.mark.ensures

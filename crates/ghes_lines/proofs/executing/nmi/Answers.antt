@@ -19,7 +19,7 @@ returns-clause-ok g c =
     let at = c.in_ok-nmi_at.ensures.ok in
     let there = slice_get_read machine.sources.items _ c.args.at source refl c.requires.within c.index.ensures in
     on_ok _ _ c.mark.result
-    (λ is before f. goes_at seen faults machine _ _ _ _ _ before _ refl at.now is
+    (λ is before f. goes_at seen faults machine _ _ _ _ _ before _ refl refl at.now is
     (follows_nmi seen faults machine desk.block_len c.args.ports.now desk c.nmi_at.new.desk before c.args.number c.args.at source at.port at.port' there (all_at _ machine.sources.items c.args.at source c.requires.machine.sources there)
     at.there (g.met.P.Firmware.sound at.port').planned c.requires.running at.did f))
     c.mark.ensures

@@ -1,7 +1,7 @@
 use Rattle.std.proofs.Common.{refl, ap, ◌∙◌}
 use Rattle.ghes_ledger.specs.History.{Act}
 use Rattle.ghes_lines.specs.Desk.{marked}
-use Rattle.ghes_lines.proofs.ExecLemmas.{on_ok, goes_at}
+use Rattle.ghes_lines.proofs.ExecLemmas.{on_ok, goes_made}
 use Rattle.ghes_lines.proofs.FollowsLemmas.{follows_raise}
 use Rattle.ghes_lines.proofs.LedLemmas.{room}
 use Rattle.ghes_lines.proofs.executing.raise.Goals as goal
@@ -18,6 +18,6 @@ returns-clause-ok g c =
     let desk = c.args.desk.now in
     let at = c.in_ok-raise_at.ensures.ok in
     on_ok _ _ c.mark.result
-    (λ is before f. goes_at seen faults machine _ _ _ _ _ before _ refl at.now (is ∙ ap (marked c.args.number) c.count.ensures)
+    (λ is before f. goes_made seen faults machine _ c.args.ports.now _ _ desk _ _ before _ refl c.requires.room f at.now (is ∙ ap (marked c.args.number) c.count.ensures)
     (follows_raise seen faults machine c.args.ports.now desk before c.args.number c.args.at c.args.block.now at.port at.port' at.there at.did.0 at.did.1 c.requires.running f))
     c.mark.ensures

@@ -12,5 +12,5 @@ returns-clause-ok g c =
     let machine = c.args.machine.now in
     let desk = c.args.desk.now in
     on_ok _ _ c.mark.result
-    (λ is before f. goes_on seen faults machine _ c.args.ports.now _ (marked c.args.number desk) before _ refl is (follows_setting seen faults machine c.args.ports.now desk before c.args.number c.requires.running f))
+    (λ is before f. goes_on seen faults machine _ c.args.ports.now _ (marked c.args.number desk) before _ refl refl is (follows_setting seen faults machine c.args.ports.now desk before c.args.number c.requires.running f))
     c.mark.ensures

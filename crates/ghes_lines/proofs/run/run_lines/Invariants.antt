@@ -1,5 +1,4 @@
-use Rattle.std.proofs.Common.{◌≡◌, ◌≤◌, ◌-◌, ℕ, length, map, take}
-use Rattle.ghes_lines.specs.Lines.{act_of}
+use Rattle.std.proofs.Common.{◌≡◌, ◌≤◌, ◌-◌, ℕ, length, take}
 use Rattle.ghes_lines.specs.Run.{Leads}
 use Rattle.ghes_lines.proofs.run.run_lines.Given as goal
 
@@ -10,7 +9,7 @@ invariant-loop-next g l =
       long : l.desk.block_len ≡ l.block_len;
       injects : g.I.Injector.sources l.injector ≡ length l.machine.sources.items;
       within : l.next ≤ length l.lines;
-      leads : Leads g.P.Firmware.seen g.P.Bus.faults l.machine l.ports l.desk (map act_of (take l.next l.lines));
+      leads : Leads g.P.Firmware.seen g.P.Bus.faults g.I.Injector.does l.machine (g.I.Injector.state l.initial.injector) l.ports l.desk (take l.next l.lines) (g.I.Injector.state l.injector);
     }
 
 abbrev pub decreases-loop-next : goal.decreases-loop-next

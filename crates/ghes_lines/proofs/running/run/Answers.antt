@@ -25,7 +25,7 @@ returns-clause-ok g c =
     (λ is before f.
     let begun : IsMidway seen faults machine c.args.number before start c.args.ports.now start c.new-calls.result.items =
     subst (λ (xs : List Call). IsMidway seen faults machine c.args.number before start c.args.ports.now start xs) (sym c.new-calls.ensures.items) (midway_begins seen faults machine c.args.number before c.args.ports.now start f) in
-    goes_on seen faults machine _ c.all_turns.new.ports _ _ before _ refl (is ∙ ap (marked c.args.number) c.in_ok-work.ensures ∙ ap (λ d. marked c.args.number (worked d)) entered)
+    goes_on seen faults machine _ c.all_turns.new.ports _ _ before _ refl refl (is ∙ ap (marked c.args.number) c.in_ok-work.ensures ∙ ap (λ d. marked c.args.number (worked d)) entered)
     (follows_turns seen faults machine c.args.number c.args.n before start desk c.args.ports.now c.all_turns.new.ports calls c.requires.running c.in_ok-all_turns.ensures.turns f
     (c.in_ok-all_turns.ensures.goes c.args.number before start begun)))
     c.mark.ensures
