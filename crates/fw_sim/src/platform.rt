@@ -83,6 +83,17 @@ fn injector_of(
     Ok(Some(port))
 }
 
+impl EinjSide {
+    ghost use Rattle.fw_sim.specs.Platform.{side_injector};
+
+    /// The machine that injects, where there is an injection table.
+    pub fn into_injector(self) -> Option<EinjPort>
+        ensures { result ≡ side_injector self }
+    {
+        self.injector
+    }
+}
+
 impl Platform {
     ghost use Rattle.fw_sim.specs.Platform.{ports_in, injector_in, machine_in, side_injector, IsInjectedBy, LendsPort};
 

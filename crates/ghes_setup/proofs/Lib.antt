@@ -1,0 +1,6 @@
+mod FrontLemmas
+mod InjectLemmas
+mod MachineLemmas
+mod PlatformLemmas
+mod PortLemmas
+mod SaidLemmas

@@ -1,0 +1,5 @@
+pub mod Injecting
+pub mod Machine
+pub mod Ports
+pub mod Rig
+pub mod Settings
