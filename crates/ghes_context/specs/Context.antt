@@ -8,7 +8,6 @@ use Rattle.ghes_rule.specs.declared.views.Stage.TheVariants.{Idle}
 use Rattle.ghes_rule.specs.declared.views.PacketView.{PacketView}
 use Rattle.ghes_throttle.specs.Shown.{Known}
 use Rattle.ghes_nmi.specs.declared.receive.Receive.{Receive}
-use Rattle.ghes_context.specs.declared.ask.Desk.{Desk}
 use Rattle.ghes_context.specs.declared.rest.Rest.{Rest}
 use Rattle.ghes_context.specs.Told.{told_by}
 
@@ -28,32 +27,33 @@ pub record ContextSeen : Type 0 where
 abbrev pub no_pass : PassSeen
 no_pass = record { table = record { words = 0; slots = 0; views_name = 0; atom = 0; block = 0; offset = 0; slot_names = [] }; view = blank_pass }
 
--- the pass at a desk; between two calls a desk is there
-abbrev pub pass_at : Option Desk → PassSeen
+-- the pass of a context; between two calls it is there
+abbrev pub pass_at : Option PassSeen → PassSeen
 pass_at None = no_pass
-pass_at (Some desk) = desk.pass
+pass_at (Some pass) = pass
 
 -- a limit has room for the header of a block, and a block under it fits an image
 abbrev pub FitsLimit : ℕ → Receive → Type 0
 FitsLimit block_len receive = (20 ≤ receive.limit) × (receive.limit ≤ block_len)
 
--- what is at a desk between two calls: a pass with this number that holds no claim, whose packets are as long as an image, and a
--- buffer for an image
-pub record IsReady (number block_len : ℕ) (desk : Desk) : Type 0 where
-  pub numbered : desk.pass.view.number ≡ number
-  pub idle : desk.pass.view.stage ≡ Idle
-  pub long : desk.pass.view.room ≡ block_len
-  pub room : block_len ≤ desk.image.room
+-- what a pass is between two calls: it has this number, it holds no claim, and its packets are as long as an image
+pub record IsReady (number block_len : ℕ) (pass : PassSeen) : Type 0 where
+  pub numbered : pass.view.number ≡ number
+  pub idle : pass.view.stage ≡ Idle
+  pub long : pass.view.room ≡ block_len
 
-abbrev pub IsManned : ℕ → ℕ → Option Desk → Type 0
+-- a pass is there
+abbrev pub IsManned : ℕ → ℕ → Option PassSeen → Type 0
 IsManned number block_len None = ⊥
-IsManned number block_len (Some desk) = IsReady number block_len desk
+IsManned number block_len (Some pass) = IsReady number block_len pass
 
--- What a context has beside its desk: the limits of its sources fit, each source has a count, and the fatal block that it keeps has room
+-- What a context has beside its pass: the limits of its sources fit, each source has a count, and an image and the fatal block that it
+-- keeps have room
 pub record IsKeeping (rest : Rest) : Type 0 where
   pub limits : AllByRecursion (FitsLimit rest.block_len) rest.sources.items
   pub as_many : length rest.acknowledged.items ≡ length rest.sources.items
   pub few : length rest.sources.items ≤ 65536
+  pub image : rest.block_len ≤ rest.image.room
   pub room : rest.block_len ≤ rest.fatal.packet.bytes.room
 
 -- a context whose pass is away, and the fatal block that it keeps (own choice)
@@ -134,6 +134,7 @@ new_context number pass reports sources block_len room = record {
 -- a call leaves these as they are
 pub record KeepsRest (before after : Rest) : Type 0 where
   pub number : after.number ≡ before.number
+  pub image : after.image ≡ before.image
   pub fatal : after.fatal ≡ before.fatal
   pub reader : after.reader ≡ before.reader
   pub sources : after.sources ≡ before.sources

@@ -1,11 +1,11 @@
-//! What one call is about, and what it moves.
+//! What one call is about, and the fatal block of a context.
 
 ghost use Rattle.std.specs.Prelude.{◌≡◌};
 ghost use Rattle.ghes_call.specs.declared.call.AckState.TheVariants.{NotAsked};
 
-use ghes_call::{AckState, Buffer, Outcome, Packet, Reply};
+use ghes_call::{AckState, Outcome, Packet, Reply};
 use ghes_nmi::Receive;
-use ghes_rule::{Pass, Shared};
+use ghes_rule::Shared;
 
 /// What one call is about: the shared object, how the source is received, the position of the source, the number of the block that
 /// may stand, and the time in nanoseconds.
@@ -18,13 +18,6 @@ pub(crate) struct Ask<'a> {
     pub(crate) time: u64,
 }
 
-/// What a call takes in hand and gives back: the pass of the context, and the buffer for an image.
-#[derive(Drop)]
-pub(crate) struct Desk {
-    pub(crate) pass: Pass,
-    pub(crate) image: Buffer,
-}
-
 /// The fatal block of the context, if it has one, and its buffer.
 #[derive(Drop)]
 pub(crate) struct Kept {
@@ -33,6 +26,7 @@ pub(crate) struct Kept {
 }
 
 /// The reply of a call that acknowledged nothing.
+#[inline(always)]
 pub(crate) fn untouched(outcome: Outcome) -> Reply
     ensures { result ≡ record { outcome = outcome; ack = NotAsked } }
 {

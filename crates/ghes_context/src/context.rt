@@ -9,11 +9,11 @@ ghost use Rattle.ghes_rule.specs.declared.views.Stage.TheVariants.{Idle};
 ghost use Rattle.ghes_context.specs.Context.{FitsLimit, new_context};
 ghost use Rattle.ghes_context.specs.Nmi.{IsPortOf, IsNmi, IsEntered};
 
-use crate::ask::{Ask, Desk};
+use crate::ask::Ask;
 use crate::calling::call;
 use crate::rest::{Memory, Rest};
 use apei_base::Firmware;
-use ghes_call::{Buffer, Call, Packet, Reply};
+use ghes_call::{Call, Packet, Reply};
 use ghes_nmi::Receive;
 use ghes_rule::{Pass, Shared};
 use ghes_steps::Steps;
@@ -29,7 +29,7 @@ use std::sync::ledger::Ledger;
 #[derive(Drop)]
 pub struct Context {
     // It is there between two calls, and in the hands of a call while that runs.
-    pub(crate) desk: Option<Desk>,
+    pub(crate) pass: Option<Pass>,
     pub(crate) rest: Rest,
 }
 
@@ -40,9 +40,9 @@ impl Model for Context {
 
     ghost Value = { ContextSeen };
 
-    ghost view = { λ c. context_of (pass_at c.desk) c.rest };
+    ghost view = { λ c. context_of (pass_at c.pass) c.rest };
 
-    ghost invariant = { λ c. IsManned c.rest.number c.rest.block_len c.desk × (told_by c.rest.fatal ≡ (pass_at c.desk).view.fatal) × IsKeeping c.rest };
+    ghost invariant = { λ c. IsManned c.rest.number c.rest.block_len c.pass × (told_by c.rest.fatal ≡ (pass_at c.pass).view.fatal) × IsKeeping c.rest };
 }
 
 /// Want of memory for a context. The pass and the reader are handed back.
@@ -77,18 +77,17 @@ impl Context {
         let Ok(memory) = Memory::new(alloc, sources, block_len) else {
             return Err(ContextRefused { pass, reader });
         };
-        let Ok(image) = Buffer::with_room(alloc, block_len) else {
-            return Err(ContextRefused { pass, reader });
-        };
         let Memory {
+            image,
             fatal,
             sources,
             acknowledged,
         } = memory;
         Ok(Context {
-            desk: Some(Desk { pass, image }),
+            pass: Some(pass),
             rest: Rest {
                 number,
+                image,
                 fatal,
                 reader,
                 sources,
@@ -166,7 +165,7 @@ impl Context {
         ensures room { self.old.room ≤ self.new.room }
         ensures cost { steps.new ≤ steps.old + shared.now.slots + 11 }
     {
-        let Some(desk) = self.desk.take() else {
+        let Some(pass) = self.pass.take() else {
             unreachable!();
         };
         let ask = Ask {
@@ -176,15 +175,16 @@ impl Context {
             seq: self.rest.acknowledged[source] + 1,
             time: now,
         };
-        let (desk, reply) = call(
+        let (pass, reply) = call(
             &ask,
-            desk,
+            pass,
+            &mut self.rest.image,
             &mut self.rest.reader,
             &mut self.rest.fatal,
             port,
             steps,
         );
-        self.desk = Some(desk);
+        self.pass = Some(pass);
         self.rest.enter(source, now, reply);
         reply
     }

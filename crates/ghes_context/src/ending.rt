@@ -19,6 +19,7 @@ use ghes_steps::Steps;
 use std::sync::ledger::Ledger;
 
 /// Clears and acknowledges a block that the report of this number has told before.
+#[inline(always)]
 pub(crate) fn end_duplicate<P: Firmware, L: Ledger>(
     ask: &Ask<'_>,
     address: u64,
@@ -45,6 +46,7 @@ pub(crate) fn end_duplicate<P: Firmware, L: Ledger>(
 }
 
 // Keeps the image as the fatal block of the context, and sets the panic word. The buffers change places.
+#[inline(always)]
 fn keep_fatal<L: Ledger>(
     ask: &Ask<'_>,
     pass: Pass,
@@ -69,6 +71,7 @@ fn keep_fatal<L: Ledger>(
 }
 
 /// Clears a fatal block, keeps its image, sets the panic word, and acknowledges the block. It needs no slot.
+#[inline(always)]
 pub(crate) fn end_fatal<P: Firmware, L: Ledger>(
     ask: &Ask<'_>,
     address: u64,

@@ -21,6 +21,7 @@ pub(crate) struct Found {
 }
 
 // Takes the image of the block whose header is at hand. Where the header is refused the image is the header alone.
+#[inline(always)]
 fn take_image<P: Firmware, L: Ledger>(
     address: u64,
     header: &[u8; 20],
@@ -62,6 +63,7 @@ fn take_image<P: Firmware, L: Ledger>(
 /// Looks for a block, and takes its image into the buffer: three accesses at most.
 ///
 /// It is `None` where no block stands. An access that fails leaves the source as it is.
+#[inline(always)]
 pub(crate) fn find<P: Firmware, L: Ledger>(
     receive: &Receive,
     image: &mut Buffer,

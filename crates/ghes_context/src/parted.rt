@@ -3,10 +3,8 @@ ghost use Rattle.std.specs.Prelude.{◌≡◌};
 ghost use Rattle.ghes_rule.specs.declared.views.Stage.TheVariants.{Idle};
 ghost use Rattle.ghes_context.specs.Context.{parted_from, seated_in};
 
-use crate::ask::Desk;
 use crate::context::Context;
 use crate::rest::Rest;
-use ghes_call::Buffer;
 use ghes_rule::Pass;
 use std::marker::Model;
 
@@ -15,19 +13,17 @@ use std::marker::Model;
 /// Source: own choice.
 #[derive(Drop)]
 pub struct Parted {
-    image: Buffer,
     rest: Rest,
 }
 
 impl Model for Parted {
-    ghost use Rattle.std.specs.Prelude.{◌≡◌, ◌≤◌};
     ghost use Rattle.ghes_context.specs.Context.{PartedSeen, parted_of, IsKeeping};
 
     ghost Value = { PartedSeen };
 
     ghost view = { λ p. parted_of p.rest };
 
-    ghost invariant = { λ p. IsKeeping p.rest × (p.rest.block_len ≤ p.image.room) };
+    ghost invariant = { λ p. IsKeeping p.rest };
 }
 
 impl Context {
@@ -39,11 +35,11 @@ impl Context {
         ensures number { result.1.view.number ≡ self.number }
         ensures long { result.1.view.room ≡ self.block_len }
     {
-        let Context { desk, rest } = self;
-        let Some(Desk { pass, image }) = desk else {
+        let Context { pass, rest } = self;
+        let Some(pass) = pass else {
             unreachable!();
         };
-        (Parted { image, rest }, pass)
+        (Parted { rest }, pass)
     }
 }
 
@@ -56,9 +52,9 @@ impl Parted {
         requires fatal { pass.view.fatal ≡ self.fatal }
         ensures { result ≡ seated_in self pass }
     {
-        let Parted { image, rest } = self;
+        let Parted { rest } = self;
         Context {
-            desk: Some(Desk { pass, image }),
+            pass: Some(pass),
             rest,
         }
     }

@@ -1,4 +1,4 @@
-//! What a context has beside its pass and its image.
+//! What a context has beside its pass.
 ghost use Rattle.std.specs.Prelude.{◌≡◌, ◌≤◌, ◌<◌, ◌+◌, ◌*◌, ◌∷◌, ◌++◌, ◌^◌, ◌-◌, false, [], length, replicate, slice_index, slice_set, vec_capacity, if◌then◌else◌, IfOk, OnOk};
 ghost use Rattle.std.specs.List.{AllByRecursion};
 ghost use Rattle.ghes_call.specs.Call.{acknowledges};
@@ -6,15 +6,17 @@ ghost use Rattle.ghes_context.specs.Context.{FitsLimit, IsKeeping, KeepsRest};
 ghost use Rattle.ghes_context.specs.Ends.{counted};
 
 use crate::ask::Kept;
-use ghes_call::{Call, Outcome, Packet, Reply};
+use ghes_call::{Buffer, Call, Outcome, Packet, Reply};
 use ghes_nmi::Receive;
 use ghes_throttle::ThrottleReader;
 use std::alloc::{AllocError, Global};
 
-/// What a context has beside its pass and its image.
+/// What a context has beside its pass.
 #[derive(Drop)]
 pub(crate) struct Rest {
     pub(crate) number: u16,
+    /// The buffer for an image.
+    pub(crate) image: Buffer,
     pub(crate) fatal: Kept,
     pub(crate) reader: ThrottleReader,
     pub(crate) sources: Vec<Receive>,
@@ -27,23 +29,26 @@ pub(crate) struct Rest {
 /// Memory that a context takes when it is made.
 #[derive(Drop)]
 pub(crate) struct Memory {
+    pub(crate) image: Buffer,
     pub(crate) fatal: Kept,
     pub(crate) sources: Vec<Receive>,
     pub(crate) acknowledged: Vec<u32>,
 }
 
 impl Memory {
-    /// Makes the buffer of a fatal block, the list of sources, and a count of 0 for each.
+    /// Makes the buffers of an image and of a fatal block, the list of sources, and a count of 0 for each.
     pub(crate) fn new(
         alloc: Global,
         sources: &[Receive],
         block_len: usize,
     ) -> Result<Memory, AllocError>
+        ensures image { IfOk result (λ memory. memory.image.room ≡ block_len) }
         ensures sources { IfOk result (λ memory. memory.sources.items ≡ sources.now) }
         ensures acknowledged { IfOk result (λ memory. memory.acknowledged.items ≡ replicate (length sources.now) 0) }
         ensures fatal { IfOk result (λ memory. (memory.fatal.is_some ≡ false) × (memory.fatal.packet.bytes.room ≡ block_len)) }
     {
         Ok(Memory {
+            image: Buffer::with_room(alloc, block_len)?,
             fatal: Kept {
                 is_some: false,
                 packet: Packet::empty(alloc, block_len)?,
@@ -55,6 +60,7 @@ impl Memory {
 }
 
 // Whether an outcome acknowledges a block.
+#[inline(always)]
 fn acknowledges(outcome: Outcome) -> bool
     ensures { result ≡ acknowledges outcome }
 {
@@ -66,6 +72,7 @@ fn acknowledges(outcome: Outcome) -> bool
 }
 
 // Counts a block of a source where it was acknowledged.
+#[inline(always)]
 fn count(acknowledged: &mut [u32], source: usize, outcome: Outcome)
     requires within { source < length acknowledged.old }
     requires fits { slice_index acknowledged.old source < 2 ^ 32 - 1 }
@@ -79,6 +86,7 @@ fn count(acknowledged: &mut [u32], source: usize, outcome: Outcome)
 
 impl Rest {
     /// Counts the block of a reply that acknowledged one, and enters the call in the log, which has room for it.
+    #[inline(always)]
     pub(crate) fn enter(&mut self, source: usize, now: u64, reply: Reply)
         requires keeping { IsKeeping self.old }
         requires within { source < length self.old.sources.items }
@@ -97,7 +105,6 @@ impl Rest {
             now,
             reply,
         };
-        // It cannot fail below the room.
-        let _ = self.log.push(call);
+        self.log.push_reserved(call);
     }
 }

@@ -16,6 +16,7 @@ use std::sync::ledger::Ledger;
 /// Clears the block at `address`: from then on it is acknowledged.
 ///
 /// One access. After Linux 6.1, drivers/acpi/apei/ghes.c.
+#[inline(always)]
 pub fn clear<P: Firmware, L: Ledger>(
     address: u64,
     port: &mut P,
@@ -33,6 +34,7 @@ pub fn clear<P: Firmware, L: Ledger>(
 }
 
 // A mask in its place in the register: the whole number, which may reach past it.
+#[inline(always)]
 fn shifted(mask: u64, bit_offset: u8) -> u128
     requires { bit_offset ≤ 64 }
     ensures { result ≡ mask * 2 ^ bit_offset }
@@ -41,6 +43,7 @@ fn shifted(mask: u64, bit_offset: u8) -> u128
 }
 
 // The low 64 bits of a number.
+#[inline(always)]
 fn low_bits(number: u128) -> u64
     ensures { result ≡ number % 2 ^ 64 }
 {
@@ -48,6 +51,7 @@ fn low_bits(number: u128) -> u64
 }
 
 // What is written to acknowledge, told what the register holds: 64 bits of it.
+#[inline(always)]
 fn written(rule: &AckRule, cell: u64) -> u64
     ensures { result % 2 ^ rule.now.register.width ≡ acknowledgement (rule_seen rule.now) cell }
 {
@@ -56,6 +60,7 @@ fn written(rule: &AckRule, cell: u64) -> u64
 }
 
 // Reads the register, keeps the preserved bits, sets the others, and writes it.
+#[inline(always)]
 fn write_back<P: Firmware, L: Ledger>(
     rule: &AckRule,
     port: &mut P,
@@ -78,6 +83,7 @@ fn write_back<P: Firmware, L: Ledger>(
 /// read fails nothing is written. Without a rule nothing is done.
 ///
 /// At most two accesses. Source: ACPI 6.5, 18.3.2.8.
+#[inline(always)]
 pub fn acknowledge<P: Firmware, L: Ledger>(
     ack: &Option<AckRule>,
     port: &mut P,

@@ -18,6 +18,7 @@ pub enum Examined {
 /// Examines an image under the limit of its source. It makes no access.
 ///
 /// After Linux 6.1, drivers/firmware/efi/cper.c.
+#[inline(always)]
 pub fn examine(image: &[u8], limit: u32) -> Examined
     ensures { result ≡ examined image.now limit }
 {

@@ -15,6 +15,7 @@ use std::sync::ledger::Ledger;
 /// has stood yet.
 ///
 /// One access. After Linux 6.1, drivers/acpi/apei/ghes.c.
+#[inline(always)]
 pub fn peek<P: Firmware, L: Ledger>(
     receive: &Receive,
     port: &mut P,
@@ -35,9 +36,26 @@ pub fn peek<P: Firmware, L: Ledger>(
     }
 }
 
+// Copies the header of the block at `address`. It stands apart so that its 20 bytes stay in memory: inlined, they are moved one by one.
+#[inline(never)]
+fn copy_header<P: Firmware>(
+    address: u64,
+    header: &mut [u8; 20],
+    port: &mut P,
+) -> Result<(), BusFault>
+    requires at { address ≡ (P.seen port.old).layout.area }
+    requires within { 20 ≤ (P.seen port.old).layout.room }
+    ensures value { OnOk result (header.new ≡ area_bytes 0 20 (P.seen port.old)) }
+    ensures kept { P.seen port.new ≡ P.seen port.old }
+    ensures count { CountsFaults result (P.faults port.old) (P.faults port.new) }
+{
+    copy_area(port, address, 0, header)
+}
+
 /// Copies the header of the block at `address`, or none where no block stands: its block status is 0.
 ///
 /// One access. After Linux 6.1, drivers/acpi/apei/ghes.c.
+#[inline(always)]
 pub fn read_header<P: Firmware, L: Ledger>(
     address: u64,
     port: &mut P,
@@ -52,7 +70,7 @@ pub fn read_header<P: Firmware, L: Ledger>(
 {
     let mut header = [0u8; 20];
     steps.tick();
-    match copy_area(port, address, 0, &mut header) {
+    match copy_header(address, &mut header, port) {
         Err(fault) => Err(fault),
         Ok(()) if u32_at(&header, 0) == 0 => Ok(None),
         Ok(()) => Ok(Some(header)),
@@ -60,6 +78,7 @@ pub fn read_header<P: Firmware, L: Ledger>(
 }
 
 // Writes the header to the front of the bytes, and copies what is behind it there into the rest, if there is a rest.
+#[inline(always)]
 fn join<P: Firmware, L: Ledger>(
     address: u64,
     header: &[u8; 20],
@@ -91,6 +110,7 @@ fn join<P: Firmware, L: Ledger>(
 ///
 /// One access where the block is longer than its header, and else none.
 /// After Linux 6.1, drivers/acpi/apei/ghes.c.
+#[inline(never)]
 pub fn read_rest<P: Firmware, L: Ledger>(
     address: u64,
     header: &[u8; 20],

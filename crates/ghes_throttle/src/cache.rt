@@ -4,7 +4,7 @@ ghost use Rattle.ghes_throttle.specs.declared.report.Report.{Report};
 ghost use Rattle.ghes_throttle.specs.Cache.{CacheState, empty_places, first_at, is_empty, is_over, is_least, hit_of, place_for, with_put, put_into};
 ghost use Rattle.ghes_throttle.specs.Reports.{IsCacheOf, hit, with_report};
 
-use crate::place::Place;
+use crate::place::{Place, byte_sum};
 use std::alloc::{AllocError, Global};
 use std::marker::Model;
 
@@ -63,20 +63,35 @@ impl Cache {
         self.lowest_hit(bytes, now)
     }
 
+    // Whether two places or more have so many bytes.
+    fn has_two_of(&self, count: usize) -> bool {
+        let first = u8::from(self.first.len() == count);
+        let second = u8::from(self.second.len() == count);
+        let third = u8::from(self.third.len() == count);
+        let fourth = u8::from(self.fourth.len() == count);
+        first + second + third + fourth > 1
+    }
+
     #[tactic(auto, unfolding(crate::specs::Cache::hit_of))]
     fn lowest_hit(&self, bytes: &[u8], now: u64) -> Option<u64>
         ensures { result ≡ hit_of self.now.places bytes.now now }
     {
-        if self.first.hits(bytes, now) {
+        // With a sum at hand the bytes of most places are not compared.
+        let total = if self.has_two_of(bytes.len()) {
+            Some(byte_sum(bytes))
+        } else {
+            None
+        };
+        if self.first.hits(bytes, total, now) {
             return Some(self.first.number());
         }
-        if self.second.hits(bytes, now) {
+        if self.second.hits(bytes, total, now) {
             return Some(self.second.number());
         }
-        if self.third.hits(bytes, now) {
+        if self.third.hits(bytes, total, now) {
             return Some(self.third.number());
         }
-        if self.fourth.hits(bytes, now) {
+        if self.fourth.hits(bytes, total, now) {
             return Some(self.fourth.number());
         }
         None
