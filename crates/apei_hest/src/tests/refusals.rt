@@ -15,7 +15,7 @@ const ONE_SOURCE: &str = "one 9=40: 1: accepted\n\
     one 36=02 9=3f: 1: 4 count says 2, found 1\n\
     one 100=1300 9=3d: 1: 7 block length of source 1\n\
     one 63=05 9=3f: 1: 6 register of source 1: 2 access size\n\
-    one*63 4=67 9=41: 1: 2 truncated at 40\n\
+    one 103= 4=67 9=41: 1: 2 truncated at 40\n\
     36=: 0: 2 truncated at 36\n\
     37=: 0: 2 truncated at 36\n\
     38=: 0: 2 truncated at 36\n\
