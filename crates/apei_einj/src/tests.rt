@@ -140,21 +140,38 @@ const MORE: [More; 3] = [
     ),
 ];
 
+// The sample.
+fn sample(alloc: Global) -> Result<Einj, Fail> {
+    Ok(Einj::read(alloc, &changed(alloc, 44, &[9], 0x71)?)?)
+}
+
+// Where the anchor of an action begins.
+fn begins(einj: &Einj, action: u8) -> Option<u32> {
+    einj.anchor(action).map(|anchor| anchor.at)
+}
+
 #[test]
 fn the_sample_gives_its_entries_and_their_anchors(rt: HostRuntime) -> Result<(), Fail> {
-    let einj = Einj::read(rt.alloc(), &changed(rt.alloc(), 44, &[9], 0x71)?)?;
+    let einj = sample(rt.alloc())?;
     assert_eq!(rt; einj.entries().len(), 9);
     assert_eq!(rt; einj.entries().get(5).copied(), Some(EXECUTE));
     assert_eq!(rt; einj.entries().get(6).copied(), Some(CHECK_BUSY));
-    for (action, want) in &ANCHORS {
-        let at = einj.anchor(*action).map(|anchor| anchor.at);
-        assert_eq!(rt; at, *want, "of action {action}");
+    for (action, want) in ANCHORS {
+        assert_eq!(rt; begins(&einj, action), want);
     }
+    Ok(())
+}
+
+// How many entries are kept of the sample with more, and where the anchor of action 3 begins.
+fn kept(alloc: Global, more: &More) -> Result<(usize, Option<u32>), Fail> {
+    let einj = Einj::read(alloc, &with_more(alloc, more)?)?;
+    Ok((einj.entries().len(), begins(&einj, 3)))
+}
+
+#[test]
+fn more_entries_leave_the_anchors(rt: HostRuntime) -> Result<(), Fail> {
     for more in &MORE {
-        let einj = Einj::read(rt.alloc(), &with_more(rt.alloc(), more)?)?;
-        assert_eq!(rt; einj.entries().len(), more.5, "{}", more.0);
-        let at = einj.anchor(3).map(|anchor| anchor.at);
-        assert_eq!(rt; at, Some(144), "{}", more.0);
+        assert_eq!(rt; kept(rt.alloc(), more)?, (more.5, Some(144)));
     }
     Ok(())
 }
@@ -188,11 +205,15 @@ const CHANGED: [(&str, usize, &[u8], u8, &str); 13] = [
     ("no action 8", 304, &[9], 0x70, "accepted"),
 ];
 
+// What is told of the sample with these bytes at an offset and this checksum.
+fn told_of(alloc: Global, at: usize, value: &[u8], checksum: u8) -> Result<String, Fail> {
+    told(alloc, &changed(alloc, at, value, checksum)?)
+}
+
 #[test]
 fn a_changed_sample_is_refused_in_its_words(rt: HostRuntime) -> Result<(), Fail> {
     for (name, at, value, checksum, want) in &CHANGED {
-        let bytes = changed(rt.alloc(), *at, value, *checksum)?;
-        let text = told(rt.alloc(), &bytes)?;
+        let text = told_of(rt.alloc(), *at, value, *checksum)?;
         assert_eq!(rt; text.as_str(), *want, "{name}");
     }
     let bytes = changed(rt.alloc(), 44, &[9], 0x71)?;

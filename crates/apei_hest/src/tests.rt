@@ -4,7 +4,7 @@ mod lengths;
 mod limits;
 mod refusals;
 
-use crate::{Ack2, Ghes, Hest, Notify};
+use crate::{Ack2, Ghes, Hest, Notify, Source};
 use apei_base::Gas;
 use std::alloc::Global;
 use std::test::Fail;
@@ -25,21 +25,6 @@ const SOURCE_2: &str = "0a000200ffff0001010000000100000000000000004000040800007f
     002000030010007f00000000\
     feffffff00000000\
     0100000000000000";
-
-// Where the fields of a generic source stand in its structure.
-const ID: usize = 2;
-
-const ENABLED: usize = 7;
-
-const STATUS: usize = 20;
-
-const ADDRESS: usize = 24;
-
-const KIND: usize = 32;
-
-const BLOCK_LENGTH: usize = 60;
-
-const ACK: usize = 64;
 
 // Writes bytes at an offset, as far as there is room.
 fn put(bytes: &mut [u8], at: usize, value: &[u8]) {
@@ -64,6 +49,39 @@ fn mend(bytes: &mut [u8]) {
     put(bytes, 9, &[0u8.wrapping_sub(total)]);
 }
 
+// The bytes that a word says: `one` and `two` are the structures of the sample and of version 2, and other words are in
+// hexadecimal. Behind a star stands how long they are; zeros fill them up. A word that changes a table says none.
+fn structure(alloc: Global, word: &str) -> Result<Vec<u8>, Fail> {
+    if word.split_once('=').is_some() {
+        return Ok(Vec::new(alloc));
+    }
+    if let Some((digits, length)) = word.split_once('*') {
+        let mut bytes = hex::decode(alloc, digits)?;
+        bytes.resize(length.parse::<usize>()?, 0)?;
+        return Ok(bytes);
+    }
+    let digits = match word {
+        "one" => SOURCE,
+        "two" => SOURCE_2,
+        _ => word,
+    };
+    Ok(hex::decode(alloc, digits)?)
+}
+
+// Changes a table by words: `AT=HEX` puts bytes at an offset from its start, and `AT=` cuts it off there.
+fn change(alloc: Global, bytes: &mut Vec<u8>, words: &str) -> Result<(), Fail> {
+    for word in words.split_whitespace() {
+        if let Some((at, digits)) = word.split_once('=') {
+            let at = at.parse::<usize>()?;
+            put(bytes, at, &hex::decode(alloc, digits)?);
+            if digits.is_empty() {
+                bytes.truncate(at);
+            }
+        }
+    }
+    Ok(())
+}
+
 // The table that states this count and has these bytes behind it.
 fn table(alloc: Global, count: u32, structures: &[u8]) -> Result<Vec<u8>, Fail> {
     let mut bytes = hex::decode(alloc, HEADER)?;
@@ -73,12 +91,23 @@ fn table(alloc: Global, count: u32, structures: &[u8]) -> Result<Vec<u8>, Fail> 
     Ok(bytes)
 }
 
-// A structure of so many bytes, all zero but its type and its id.
-fn blank(alloc: Global, kind: u8, id: u8, length: usize) -> Result<Vec<u8>, Fail> {
-    let mut bytes = Vec::new(alloc);
-    bytes.resize(length, 0)?;
-    put(&mut bytes, 0, &[kind, 0, id]);
+// The table of a count and words. Its length and its checksum are mended, but where a word says them.
+fn table_of(alloc: Global, count: u32, words: &str) -> Result<Vec<u8>, Fail> {
+    let mut structures = Vec::new(alloc);
+    for word in words.split_whitespace() {
+        structures.extend_from_slice(&structure(alloc, word)?)?;
+    }
+    let mut bytes = table(alloc, count, &structures)?;
+    change(alloc, &mut bytes, words)?;
+    mend(&mut bytes);
+    change(alloc, &mut bytes, words)?;
     Ok(bytes)
+}
+
+// Whether the table of a count and words gives these sources.
+fn gives(alloc: Global, count: u32, words: &str, want: &[Source]) -> Result<bool, Fail> {
+    let hest = Hest::read(alloc, &table_of(alloc, count, words)?)?;
+    Ok(hest.sources() == want)
 }
 
 // The refusal of a table in words, or that it is accepted.
@@ -89,9 +118,19 @@ fn told(alloc: Global, bytes: &[u8]) -> Result<String, Fail> {
     }
 }
 
-// What is told of the table that states this count and has these structures.
-fn told_of(alloc: Global, count: u32, structures: &[u8]) -> Result<String, Fail> {
-    told(alloc, &table(alloc, count, structures)?)
+// How many lines `WORDS: COUNT: TOLD` are right, up to the first that is not.
+fn right(alloc: Global, lines: &str) -> Result<usize, Fail> {
+    let mut count = 0usize;
+    for line in lines.split('\n') {
+        let (words, rest) = line.split_once(": ").unwrap_or(("", ""));
+        let (said, want) = rest.split_once(": ").unwrap_or(("0", ""));
+        let bytes = table_of(alloc, said.parse::<u32>()?, words)?;
+        if told(alloc, &bytes)?.as_str() != want {
+            return Ok(count);
+        }
+        count = count.saturating_add(1);
+    }
+    Ok(count)
 }
 
 // What the structure of the sample says with another id, place, address and acknowledgement.

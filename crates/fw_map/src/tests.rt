@@ -13,11 +13,10 @@ const HEST: &str = "484553546800000001404748455352545245504c41593031010000004748
     0100000002000000";
 
 // Its sources: 1, of version 1, and 2, of version 2.
-const SOURCE: &str = "09000100ffff0001010000000100000000000000004000040000007f00000000\
+const SOURCES: &str = "09000100ffff0001010000000100000000000000004000040000007f00000000\
     041c0000000000000000000000000000000000000000000000000000\
-    00100000";
-
-const SOURCE_2: &str = "0a000200ffff0001010000000100000000000000004000040800007f00000000\
+    00100000\
+    0a000200ffff0001010000000100000000000000004000040800007f00000000\
     041c0000000000000000000000000000000000000000000000000000\
     00100000\
     002000030010007f00000000\
@@ -37,23 +36,6 @@ const ENTRIES: &str = "000400000000000000000000000000000000000000000000000000000
     06010000002000031000007e0000000001000000000000000100000000000000\
     07000000000801031000007e000000000000000000000000ff00000000000000\
     08020000002000034000007e000000000000000000000000ffffffff00000000";
-
-// What stands in a table in place of the sample's bytes, by its offset.
-type Change = (usize, &'static [u8]);
-
-// Where fields of the sources stand in the sample: the status address register and its address, the block length, and the
-// address of the read ack register.
-const STATUS: usize = 60;
-
-const ADDRESS: usize = 64;
-
-const BLOCK_LENGTH: usize = 100;
-
-const STATUS_2: usize = 124;
-
-const ADDRESS_2: usize = 128;
-
-const ACK_ADDRESS: usize = 172;
 
 // Writes bytes at an offset, as far as there is room.
 fn put(bytes: &mut [u8], at: usize, value: &[u8]) {
@@ -78,28 +60,46 @@ fn mend(bytes: &mut [u8]) {
     put(bytes, 9, &[0u8.wrapping_sub(total)]);
 }
 
-// A table of two parts, with changes.
-fn table(alloc: Global, parts: [&str; 3], changes: [Change; 2]) -> Result<Vec<u8>, Fail> {
-    let mut bytes = Vec::new(alloc);
-    for part in parts {
-        bytes.extend_from_slice(&hex::decode(alloc, part)?)?;
+// Changes a table by words: `AT=HEX` puts bytes at an offset from its start.
+fn change(alloc: Global, bytes: &mut [u8], words: &str) -> Result<(), Fail> {
+    for word in words.split_whitespace() {
+        if let Some((at, digits)) = word.split_once('=') {
+            put(bytes, at.parse::<usize>()?, &hex::decode(alloc, digits)?);
+        }
     }
-    for (at, value) in changes {
-        put(&mut bytes, at, value);
-    }
+    Ok(())
+}
+
+// The table of two parts in hexadecimal, changed by words.
+fn table(alloc: Global, front: &str, rest: &str, words: &str) -> Result<Vec<u8>, Fail> {
+    let mut bytes = hex::decode(alloc, front)?;
+    bytes.extend_from_slice(&hex::decode(alloc, rest)?)?;
+    change(alloc, &mut bytes, words)?;
     mend(&mut bytes);
     Ok(bytes)
 }
 
-// The sample of two sources, with changes.
-fn hest(alloc: Global, changes: [Change; 2]) -> Result<Hest, Fail> {
-    Ok(Hest::read(alloc, &table(alloc, [HEST, SOURCE, SOURCE_2], changes)?)?)
+// The sample of two sources, changed by words. Of the first source, 47 says whether it is enabled, 60 is its status address register
+// with the address at 64, and 100 its block length; of the second these are 111, 124, 128 and 164, and 172 is the address of its read
+// ack register.
+fn hest(alloc: Global, words: &str) -> Result<Hest, Fail> {
+    Ok(Hest::read(alloc, &table(alloc, HEST, SOURCES, words)?)?)
 }
 
-// The sample of an injection table, with a change.
-fn einj(alloc: Global, change: Change) -> Result<Einj, Fail> {
-    Ok(Einj::read(
-        alloc,
-        &table(alloc, [EINJ, ENTRIES, ""], [change, (0, &[])])?,
-    )?)
+// The sample of an injection table, changed by words.
+fn einj(alloc: Global, words: &str) -> Result<Einj, Fail> {
+    Ok(Einj::read(alloc, &table(alloc, EINJ, ENTRIES, words)?)?)
+}
+
+// A map, or why there is none: of the sources changed by words, and where there is a slash, of an injection table changed by those
+// behind it.
+fn map_of(alloc: Global, words: &str) -> Result<Result<Map, FwError>, Fail> {
+    match words.split_once('/') {
+        Some((sources, injection)) => {
+            let hest = hest(alloc, sources)?;
+            let einj = einj(alloc, injection)?;
+            Ok(Map::of(alloc, &hest, Some(&einj)))
+        }
+        None => Ok(Map::of(alloc, &hest(alloc, words)?, None)),
+    }
 }

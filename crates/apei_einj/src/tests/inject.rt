@@ -1,9 +1,9 @@
 // Injections on the machine of the sample. What is wanted was worked out by hand.
-use super::changed;
 use super::machine::{
     DONE, ERROR_TYPE, EXECUTED, End, FIRST, IN_MEMORY, NOWHERE, STATUS, Slow, TRIGGER, TYPES,
     machine,
 };
+use super::{changed, sample};
 use crate::{Einj, InjectError, Injected, Request, is_error_type};
 use apei_base::{Bus, Region, Space};
 use apei_mem_bus::Faulty;
@@ -71,25 +71,40 @@ fn waited(alloc: Global, einj: &Einj, busy: u32) -> Result<(End, u64), Fail> {
     Ok((end, bus.read(&FIRST)?))
 }
 
+// What is told where the last entry of the table has this action.
+fn told_with(
+    alloc: Global,
+    (action, checksum): (u8, u8),
+    held: (u64, u64),
+    asked: &Request,
+) -> Result<(End, u64, [u64; 4]), Fail> {
+    let einj = Einj::read(alloc, &changed(alloc, 304, &[action], checksum)?)?;
+    told(alloc, &einj, held, asked)
+}
+
 #[test]
-fn an_injection_ends_at_the_first_refusal_and_waits_999_times(rt: HostRuntime) -> Result<(), Fail> {
-    for ((action, checksum), held, asked, want) in &ENDS {
-        let einj = Einj::read(
-            rt.alloc(),
-            &changed(rt.alloc(), 304, &[*action], *checksum)?,
-        )?;
-        let told = told(rt.alloc(), &einj, *held, asked)?;
+fn an_injection_ends_at_the_first_refusal(rt: HostRuntime) -> Result<(), Fail> {
+    for (last, held, asked, want) in &ENDS {
+        let told = told_with(rt.alloc(), *last, *held, asked)?;
         assert_eq!(rt; told, *want, "{held:?} {asked:?}");
     }
-    let einj = Einj::read(rt.alloc(), &changed(rt.alloc(), 44, &[9], 0x71)?)?;
-    for busy_reads in [0, 1, 999] {
-        let told = waited(rt.alloc(), &einj, busy_reads)?;
-        assert_eq!(rt; told, (Ok(Injected { busy_reads }), 1), "{busy_reads}");
+    Ok(())
+}
+
+// How often the machine is busy; what an injection ends with, and what the first cell holds then.
+const WAITS: [(u32, (End, u64)); 4] = [
+    (0, (Ok(Injected { busy_reads: 0 }), 1)),
+    (1, (Ok(Injected { busy_reads: 1 }), 1)),
+    (999, (Ok(Injected { busy_reads: 999 }), 1)),
+    (1000, (Err(InjectError::Busy), 0)),
+];
+
+#[test]
+fn an_injection_waits_999_times(rt: HostRuntime) -> Result<(), Fail> {
+    let einj = sample(rt.alloc())?;
+    for (busy, want) in &WAITS {
+        assert_eq!(rt; waited(rt.alloc(), &einj, *busy)?, *want, "{busy}");
     }
-    assert_eq!(rt;
-        waited(rt.alloc(), &einj, 1000)?,
-        (Err(InjectError::Busy), 0)
-    );
     Ok(())
 }
 
@@ -110,16 +125,27 @@ const TYPED: [u32; 12] = [
 
 const UNTYPED: [u32; 5] = [0, 3, 0x1000, 0x8000_0000, 0x8000_0008];
 
+// Whether these numbers are error types, one and all.
+fn are_error_types(numbers: &[u32]) -> bool {
+    for number in numbers {
+        if !is_error_type(*number) {
+            return false;
+        }
+    }
+    true
+}
+
 #[test]
-fn an_error_type_is_one_of_twelve_bits_and_each_end_has_its_words(
-    rt: HostRuntime,
-) -> Result<(), Fail> {
-    for error in TYPED {
-        assert!(rt; is_error_type(error), "{error:x}");
+fn an_error_type_is_one_of_twelve_bits(rt: HostRuntime) -> Result<(), Fail> {
+    assert!(rt; are_error_types(&TYPED));
+    for number in UNTYPED {
+        assert!(rt; !is_error_type(number), "{number:x}");
     }
-    for error in UNTYPED {
-        assert!(rt; !is_error_type(error), "{error:x}");
-    }
+    Ok(())
+}
+
+#[test]
+fn each_end_has_its_words(rt: HostRuntime) -> Result<(), Fail> {
     for (error, want) in &TEXTS {
         let text = error.to_string(rt.alloc())?;
         assert_eq!(rt; text.as_str(), *want);

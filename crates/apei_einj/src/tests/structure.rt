@@ -1,6 +1,6 @@
 // The address structure that an injection writes, and how much of it stands where an access fails.
-use super::changed;
 use super::machine::{DONE, ERROR_TYPE, EXECUTED, End, FIRST, IN_MEMORY, NOWHERE, machine};
+use super::sample;
 use crate::{Einj, InjectError, Place, Request};
 use apei_base::{Bus, Region, Space};
 use apei_mem_bus::{Faulty, MemBus};
@@ -74,35 +74,53 @@ const WRITES: [(u64, Region, u64, u64); 8] = [
     (14, FIRST, 0, 1),
 ];
 
-// What an injection ends with where the access of a number fails, how many there were, and the machine then.
-fn cut_off(alloc: Global, einj: &Einj, number: u64) -> Result<(End, u64, MemBus), Fail> {
+// How many of the writes are as an injection leaves them whose access of a number fails, up to the first that is not.
+fn written(bus: &mut MemBus, number: u64) -> Result<usize, Fail> {
+    for place in 0..WRITES.len() {
+        let (at, region, before, after) = WRITES[place];
+        let want = if at < number { after } else { before };
+        if bus.read(&region)? != want {
+            return Ok(place);
+        }
+    }
+    Ok(WRITES.len())
+}
+
+// What an injection ends with where the access of a number fails, how many there were, and how many writes are as they should
+// be then.
+fn cut_off(alloc: Global, einj: &Einj, number: u64) -> Result<(End, u64, usize), Fail> {
     let mut bus = Faulty::new(alloc, full(alloc)?, &[number])?;
     let end = einj.inject(&IN_MEMORY, &mut bus);
-    Ok((end, bus.accesses(), bus.into_inner()))
+    let accesses = bus.accesses();
+    let mut inner = bus.into_inner();
+    Ok((end, accesses, written(&mut inner, number)?))
 }
 
 #[test]
-fn an_injection_writes_the_words_of_its_place_up_to_the_access_that_fails(
-    rt: HostRuntime,
-) -> Result<(), Fail> {
-    let einj = Einj::read(rt.alloc(), &changed(rt.alloc(), 44, &[9], 0x71)?)?;
+fn an_injection_writes_the_words_of_its_place(rt: HostRuntime) -> Result<(), Fail> {
+    let einj = sample(rt.alloc())?;
     for (asked, want) in &PLACES {
-        let told = words(rt.alloc(), &einj, asked)?;
-        assert_eq!(rt; told, *want, "{asked:?}");
+        assert_eq!(rt; words(rt.alloc(), &einj, asked)?, *want, "{asked:?}");
     }
+    Ok(())
+}
+
+// What an injection of 14 accesses ends with where the access of a number fails, and how many there are.
+fn ends(number: u64) -> (End, u64) {
+    if number < 15 {
+        (Err(InjectError::Fault), number)
+    } else {
+        (DONE, 14)
+    }
+}
+
+#[test]
+fn an_injection_ends_at_the_access_that_fails(rt: HostRuntime) -> Result<(), Fail> {
+    let einj = sample(rt.alloc())?;
     for number in 1..16 {
-        let (end, accesses, mut bus) = cut_off(rt.alloc(), &einj, number)?;
-        let want = if number < 15 {
-            Err(InjectError::Fault)
-        } else {
-            DONE
-        };
-        assert_eq!(rt; end, want, "at {number}");
-        assert_eq!(rt; accesses, number.min(14), "at {number}");
-        for (at, region, before, after) in &WRITES {
-            let want = if *at < number { *after } else { *before };
-            assert_eq!(rt; bus.read(region)?, want, "at {number}: {at}");
-        }
+        let (end, accesses) = ends(number);
+        let told = cut_off(rt.alloc(), &einj, number)?;
+        assert_eq!(rt; told, (end, accesses, WRITES.len()), "at {number}");
     }
     Ok(())
 }

@@ -1,6 +1,6 @@
 // Trigger tables that are refused, and those beside them that are run. What is wanted was worked out by hand.
-use super::changed;
 use super::machine::{DONE, End, FIRST, Header, IN_MEMORY, Piece, SECOND, with_table};
+use super::sample;
 use crate::{Einj, InjectError};
 use apei_base::Bus;
 use std::alloc::Global;
@@ -55,7 +55,7 @@ const TABLES: [(Header, [Piece; 2], (End, u64, u64)); 18] = [
 
 #[test]
 fn a_trigger_table_is_refused_before_an_entry_is_run(rt: HostRuntime) -> Result<(), Fail> {
-    let einj = Einj::read(rt.alloc(), &changed(rt.alloc(), 44, &[9], 0x71)?)?;
+    let einj = sample(rt.alloc())?;
     for (header, pieces, want) in &TABLES {
         let told = told(rt.alloc(), &einj, header, pieces)?;
         assert_eq!(rt; told, *want, "{header:?} {pieces:?}");

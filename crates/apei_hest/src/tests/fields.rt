@@ -1,10 +1,7 @@
 // What the fields of an accepted table say.
-use super::{
-    ADDRESS, ENABLED, ID, KIND, SOURCE, SOURCE_2, blank, put, sample, sample_notify, table,
-};
-use crate::{Ack2, Ghes, Hest, Notify, Source};
+use super::{gives, sample, sample_notify, table_of};
+use crate::{Ack2, Ghes, Notify, Source};
 use apei_base::Gas;
-use std::alloc::Global;
 use std::test::Fail;
 
 // The acknowledgement of the sample of version 2.
@@ -31,51 +28,35 @@ const FULL: &str = "0a000102030405060708090a0b0c0d0e0f101112\
     9c9d9e9fa0a1a2a3a4a5a6a7a8a9aaabacadaeafb0b1b2b3b4b5b6b7b8b9babb\
     01200003bcbdbebfc0c1c2c3c4c5c6c7c8c9cacbcccdcecfd0d1d2d3";
 
-// What a table of this count and these structures gives, with the checksum of the sample.
-fn read_sample(alloc: Global, count: u32, structures: &str, checksum: u8) -> Result<Hest, Fail> {
-    let mut bytes = table(alloc, count, &hex::decode(alloc, structures)?)?;
-    put(&mut bytes, 9, &[checksum]);
-    Ok(Hest::read(alloc, &bytes)?)
-}
-
-// What the sample gives with a byte where it says whether it is enabled.
-fn enabled_by(alloc: Global, byte: u8) -> Result<Hest, Fail> {
-    let mut structure = hex::decode(alloc, SOURCE)?;
-    put(&mut structure, ENABLED, &[byte]);
-    Ok(Hest::read(alloc, &table(alloc, 1, &structure)?)?)
-}
-
+// The samples have the checksums that docs/FORMATS.md gives.
 #[test]
 fn each_field_of_a_source_is_read_at_its_own_offset(rt: HostRuntime) -> Result<(), Fail> {
     let alloc = rt.alloc();
     let first = Source::Ghes(sample(1, 40, 0x7f00_0000, None));
-    let hest = read_sample(alloc, 1, SOURCE, 0x40)?;
-    assert_eq!(rt; hest.sources(), [first].as_slice(), "of version 1");
-
-    let want = Source::Ghes(sample(2, 40, 0x7f00_0008, Some(SAMPLE_ACK)));
-    let hest = read_sample(alloc, 1, SOURCE_2, 0x6c)?;
-    assert_eq!(rt; hest.sources(), [want].as_slice(), "of version 2");
-
+    assert!(rt; gives(alloc, 1, "one 9=40", &[first])?);
+    let alone = Source::Ghes(sample(2, 40, 0x7f00_0008, Some(SAMPLE_ACK)));
+    assert!(rt; gives(alloc, 1, "two 9=6c", &[alone])?);
     let second = Source::Ghes(sample(2, 104, 0x7f00_0008, Some(SAMPLE_ACK)));
-    let mut both = SOURCE.to_string(alloc)?;
-    both.push_str(SOURCE_2)?;
-    let hest = read_sample(alloc, 2, both.as_str(), 0x2d)?;
-    assert_eq!(rt; hest.sources(), [first, second].as_slice(), "both");
+    assert!(rt; gives(alloc, 2, "one two 9=2d", &[first, second])?);
+    let full = [Source::Ghes(full_first()), Source::Ghes(full_second())];
+    assert!(rt; gives(alloc, 2, FULL, &full)?);
+    Ok(())
+}
 
-    let hest = Hest::read(alloc, &table(alloc, 2, &hex::decode(alloc, FULL)?)?)?;
-    let want = [Source::Ghes(full_first()), Source::Ghes(full_second())];
-    assert_eq!(rt; hest.sources(), want.as_slice(), "of different values");
+// Any byte but 0 says that a source is enabled.
+const ENABLED_BY: [(&str, bool); 4] = [
+    ("one 47=00", false),
+    ("one 47=01", true),
+    ("one 47=02", true),
+    ("one 47=ff", true),
+];
 
-    // Any byte but 0 says that a source is enabled.
-    for (byte, enabled) in [(0u8, false), (1, true), (2, true), (255, true)] {
+#[test]
+fn any_byte_but_0_enables_a_source(rt: HostRuntime) -> Result<(), Fail> {
+    for (words, enabled) in ENABLED_BY {
         let mut want = sample(1, 40, 0x7f00_0000, None);
         want.enabled = enabled;
-        let hest = enabled_by(alloc, byte)?;
-        assert_eq!(rt;
-            hest.sources(),
-            [Source::Ghes(want)].as_slice(),
-            "byte {byte}"
-        );
+        assert!(rt; gives(rt.alloc(), 1, words, &[Source::Ghes(want)])?);
     }
     Ok(())
 }
@@ -166,32 +147,10 @@ fn full_second() -> Ghes {
     }
 }
 
-// A server's table: three machine checks and bridges, and two generic sources behind them.
-fn server(alloc: Global) -> Result<Vec<u8>, Fail> {
-    let mut structures = Vec::new(alloc);
-    for (kind, banks, length) in [
-        (0u8, 32usize, 152usize),
-        (1, 44, 160),
-        (6, 4, 48),
-        (7, 4, 44),
-        (8, 4, 56),
-    ] {
-        let id = if kind < 2 { kind } else { kind - 4 };
-        let mut structure = blank(alloc, kind, id, length)?;
-        if kind < 2 {
-            put(&mut structure, banks, &[4]);
-        }
-        structures.extend_from_slice(&structure)?;
-    }
-    for (id, address, kind) in [(8u8, 0u8, 4u8), (9, 8, 3)] {
-        let mut structure = hex::decode(alloc, SOURCE)?;
-        put(&mut structure, ID, &[id]);
-        put(&mut structure, ADDRESS, &[address]);
-        put(&mut structure, KIND, &[kind]);
-        structures.extend_from_slice(&structure)?;
-    }
-    table(alloc, 7, &structures)
-}
+// A server's table: three machine checks and bridges with their bank counts, and two generic sources behind them with their ids, and
+// the address and the notification of the second.
+const SERVER: &str = "000000*152 010001*160 060002*48 070003*44 080004*56 one one \
+    72=04 236=04 502=08 566=09 588=08 596=03";
 
 fn skipped(kind: u16, id: u16, at: u32, length: u32) -> Source {
     Source::Skipped {
@@ -204,9 +163,7 @@ fn skipped(kind: u16, id: u16, at: u32, length: u32) -> Source {
 
 #[test]
 fn a_servers_table_gives_seven_sources(rt: HostRuntime) -> Result<(), Fail> {
-    let bytes = server(rt.alloc())?;
-    assert_eq!(rt; bytes.len(), 628usize);
-    let hest = Hest::read(rt.alloc(), &bytes)?;
+    assert_eq!(rt; table_of(rt.alloc(), 7, SERVER)?.len(), 628usize);
     let mut last = sample(9, 564, 0x7f00_0008, None);
     last.notify = sample_notify(3);
     let want = [
@@ -218,6 +175,6 @@ fn a_servers_table_gives_seven_sources(rt: HostRuntime) -> Result<(), Fail> {
         Source::Ghes(sample(8, 500, 0x7f00_0000, None)),
         Source::Ghes(last),
     ];
-    assert_eq!(rt; hest.sources(), want.as_slice());
+    assert!(rt; gives(rt.alloc(), 7, SERVER, &want)?);
     Ok(())
 }

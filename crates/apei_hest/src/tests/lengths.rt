@@ -1,85 +1,73 @@
 // How long a structure of each type is.
-use super::{blank, put, table, told_of};
-use crate::{Hest, Source};
-use std::alloc::Global;
+use super::{gives, right};
+use crate::Source;
 use std::test::Fail;
 
-// A type, the offset of its bank count, the count, and the length.
-const BANKED: [(u8, usize, u8, usize); 9] = [
-    (0, 32, 0, 40),
-    (0, 32, 1, 68),
-    (0, 32, 255, 7180),
-    (1, 44, 0, 48),
-    (1, 44, 1, 76),
-    (1, 44, 255, 7188),
-    (11, 44, 0, 48),
-    (11, 44, 1, 76),
-    (11, 44, 255, 7188),
-];
-
-const TRUNCATED: &str = "2 truncated at 40";
-
-// A type, how many bytes of zeros the structure has behind it, and what is told.
+// A structure of id 7 whose bank count says its length; its type, and its length.
 #[rattlefmt::skip]
-const TOLD: [(u8, usize, &str); 28] = [
-    // Whole, and without the last byte.
-    (2, 20, "accepted"), (2, 19, TRUNCATED),
-    (6, 48, "accepted"), (6, 47, TRUNCATED),
-    (7, 44, "accepted"), (7, 43, TRUNCATED),
-    (8, 56, "accepted"), (8, 55, TRUNCATED),
-    (9, 64, "accepted"), (9, 63, TRUNCATED),
-    (10, 92, "accepted"), (10, 91, TRUNCATED),
-    // Cut off before the bank count, and behind it.
-    (0, 32, TRUNCATED), (0, 33, TRUNCATED),
-    (1, 44, TRUNCATED), (1, 45, TRUNCATED),
-    (11, 44, TRUNCATED), (11, 45, TRUNCATED),
-    // Types without a length.
-    (3, 4, "3 source type 3 at 40"), (3, 64, "3 source type 3 at 40"),
-    (4, 4, "3 source type 4 at 40"), (4, 64, "3 source type 4 at 40"),
-    (5, 4, "3 source type 5 at 40"), (5, 64, "3 source type 5 at 40"),
-    (12, 4, "3 source type 12 at 40"), (12, 64, "3 source type 12 at 40"),
-    (255, 4, "3 source type 255 at 40"), (255, 64, "3 source type 255 at 40"),
+const BANKED: [(&str, u16, u32); 9] = [
+    ("000007*40 72=00", 0, 40),
+    ("000007*68 72=01", 0, 68),
+    ("000007*7180 72=ff", 0, 7180),
+    ("010007*48 84=00", 1, 48),
+    ("010007*76 84=01", 1, 76),
+    ("010007*7188 84=ff", 1, 7188),
+    ("0b0007*48 84=00", 11, 48),
+    ("0b0007*76 84=01", 11, 76),
+    ("0b0007*7188 84=ff", 11, 7188),
 ];
 
-// A structure of so many bytes with so many banks.
-fn banked(
-    alloc: Global,
-    (kind, offset, banks, _): (u8, usize, u8, usize),
-    length: usize,
-) -> Result<Vec<u8>, Fail> {
-    let mut structure = blank(alloc, kind, 7, length)?;
-    put(&mut structure, offset, &[banks]);
-    Ok(structure)
-}
+// The same without their last bytes; structures without banks, whole, and without the last byte; those that are cut off before the
+// bank count, and behind it; and types without a length.
+const TOLD: &str = "000007*39 72=00: 1: 2 truncated at 40\n\
+    000007*67 72=01: 1: 2 truncated at 40\n\
+    000007*7179 72=ff: 1: 2 truncated at 40\n\
+    010007*47 84=00: 1: 2 truncated at 40\n\
+    010007*75 84=01: 1: 2 truncated at 40\n\
+    010007*7187 84=ff: 1: 2 truncated at 40\n\
+    0b0007*47 84=00: 1: 2 truncated at 40\n\
+    0b0007*75 84=01: 1: 2 truncated at 40\n\
+    0b0007*7187 84=ff: 1: 2 truncated at 40\n\
+    020007*20: 1: accepted\n\
+    020007*19: 1: 2 truncated at 40\n\
+    060007*48: 1: accepted\n\
+    060007*47: 1: 2 truncated at 40\n\
+    070007*44: 1: accepted\n\
+    070007*43: 1: 2 truncated at 40\n\
+    080007*56: 1: accepted\n\
+    080007*55: 1: 2 truncated at 40\n\
+    090007*64: 1: accepted\n\
+    090007*63: 1: 2 truncated at 40\n\
+    0a0007*92: 1: accepted\n\
+    0a0007*91: 1: 2 truncated at 40\n\
+    000007*32: 1: 2 truncated at 40\n\
+    000007*33: 1: 2 truncated at 40\n\
+    010007*44: 1: 2 truncated at 40\n\
+    010007*45: 1: 2 truncated at 40\n\
+    0b0007*44: 1: 2 truncated at 40\n\
+    0b0007*45: 1: 2 truncated at 40\n\
+    030007*4: 1: 3 source type 3 at 40\n\
+    030007*64: 1: 3 source type 3 at 40\n\
+    040007*4: 1: 3 source type 4 at 40\n\
+    040007*64: 1: 3 source type 4 at 40\n\
+    050007*4: 1: 3 source type 5 at 40\n\
+    050007*64: 1: 3 source type 5 at 40\n\
+    0c0007*4: 1: 3 source type 12 at 40\n\
+    0c0007*64: 1: 3 source type 12 at 40\n\
+    ff0007*4: 1: 3 source type 255 at 40\n\
+    ff0007*64: 1: 3 source type 255 at 40";
 
 #[test]
 fn a_structure_is_as_long_as_its_type_and_its_banks_say(rt: HostRuntime) -> Result<(), Fail> {
-    for row in BANKED {
-        let (kind, _, _, length) = row;
-        let bytes = table(rt.alloc(), 1, &banked(rt.alloc(), row, length)?)?;
-        let hest = Hest::read(rt.alloc(), &bytes)?;
-        let want = Source::Skipped {
-            kind: u16::from(kind),
+    for (words, kind, length) in BANKED {
+        let skipped = Source::Skipped {
+            kind,
             id: 7,
             at: 40,
-            length: u32::try_from(length).unwrap_or(0),
+            length,
         };
-        assert_eq!(rt; hest.sources(), [want].as_slice(), "{row:?}");
-
-        let cut = banked(rt.alloc(), row, length.saturating_sub(1))?;
-        assert_eq!(rt;
-            told_of(rt.alloc(), 1, &cut)?.as_str(),
-            TRUNCATED,
-            "{row:?} cut"
-        );
+        assert!(rt; gives(rt.alloc(), 1, words, &[skipped])?, "{words}");
     }
-    for (kind, length, want) in TOLD {
-        let structure = blank(rt.alloc(), kind, 7, length)?;
-        assert_eq!(rt;
-            told_of(rt.alloc(), 1, &structure)?.as_str(),
-            want,
-            "type {kind} in {length} bytes"
-        );
-    }
+    assert_eq!(rt; right(rt.alloc(), TOLD)?, 37);
     Ok(())
 }

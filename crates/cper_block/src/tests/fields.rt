@@ -1,6 +1,6 @@
 // What the parts of a block and the fields of its entries are.
-use super::{LIMIT, MEMORY, TWO, TWO_WITH_ALL, with_zeros};
-use crate::{Block, Header, LARGEST_BLOCK};
+use super::{LIMIT, MEMORY, TWO, TWO_WITH_ALL, Tell, right};
+use crate::{Block, DataEntry, Header};
 use hex::FromHex;
 use std::test::Fail;
 use uuid::Uuid;
@@ -53,53 +53,77 @@ const BLOCKS: [(&str, u32, &[Fields]); 3] = [
     ),
 ];
 
-// Fronts, the zero bytes behind them, and how many raw bytes and entries the block has.
-const LARGE: [(&str, usize, usize, usize); 5] = [
-    ("0200000000000000000000000000000002000000", 0, 0, 0),
-    ("0200000000000000000000000000000002000000", 9, 0, 0),
-    ("0200000014000000010000000000000002000000", 1, 1, 0),
-    ("0200000014000000ecff00000000000002000000", 65516, 65516, 0),
-    ("02000000000000000000000000fa000002000000", 64000, 0, 1000),
-];
+fn uuid_of(digits: Option<&str>) -> Result<Option<Uuid>, Fail> {
+    match digits {
+        Some(digits) => Ok(Some(Uuid::parse_str(digits)?)),
+        None => Ok(None),
+    }
+}
+
+// Whether an entry of severity 2 and without flags has these fields.
+fn has(entry: &DataEntry<'_>, fields: Fields) -> Result<bool, Fail> {
+    let (guid, revision, validation, fru, text, time, length, first) = fields;
+    let codes = (
+        entry.severity,
+        entry.revision,
+        entry.validation,
+        entry.flags,
+    );
+    let ids = (Some(entry.guid), entry.fru_id);
+    let section = (entry.section.len(), entry.section.first().copied());
+    Ok(
+        codes == (2, revision, validation, 0)
+            && ids == (uuid_of(Some(guid))?, uuid_of(fru)?)
+            && section == (length, Some(first))
+            && entry.fru_text.unwrap_or(&[]) == text
+            && entry.timestamp.unwrap_or(&[]) == time,
+    )
+}
+
+// How many entries of a block have the fields of their rows, up to the first that has others.
+fn alike(block: &Block<'_>, rows: &[Fields]) -> Result<usize, Fail> {
+    let mut place = 0usize;
+    for (entry, fields) in block.entries().zip(rows) {
+        if !has(&entry, *fields)? {
+            return Ok(place);
+        }
+        place = place.saturating_add(1);
+    }
+    Ok(place)
+}
+
+// The header of a block of 164 bytes with this status.
+fn header_of(status: u32) -> Header {
+    Header {
+        status,
+        raw_offset: 0,
+        raw_length: 0,
+        length: 144,
+        severity: 2,
+    }
+}
 
 #[test]
 fn a_block_gives_its_parts_and_its_entries(rt: HostRuntime) -> Result<(), Fail> {
-    for (digits, status, fields) in &BLOCKS {
+    for (digits, status, rows) in &BLOCKS {
         let bytes = <[u8; 164]>::from_hex(digits)?;
         let block = Block::read(&bytes, LIMIT)?;
-        let header = Header {
-            status: *status,
-            raw_offset: 0,
-            raw_length: 0,
-            length: 144,
-            severity: 2,
-        };
-        assert_eq!(rt; block.header(), header);
-        assert_eq!(rt; block.entries().count(), fields.len());
-        for (entry, field) in block.entries().zip(*fields) {
-            let (guid, revision, validation, fru, text, time, length, first) = *field;
-            assert_eq!(rt; entry.guid, Uuid::parse_str(guid)?);
-            assert_eq!(rt; (entry.severity, entry.revision), (2, revision));
-            assert_eq!(rt; (entry.validation, entry.flags), (validation, 0));
-            let id = match fru {
-                Some(id) => Some(Uuid::parse_str(id)?),
-                None => None,
-            };
-            assert_eq!(rt; entry.fru_id, id, "at {revision}");
-            assert_eq!(rt; entry.fru_text.unwrap_or(&[]), text, "at {revision}");
-            assert_eq!(rt; entry.timestamp.unwrap_or(&[]), time, "at {revision}");
-            assert_eq!(rt;
-                (entry.section.len(), entry.section.first()),
-                (length, Some(&first))
-            );
-        }
+        assert_eq!(rt; block.header(), header_of(*status));
+        assert_eq!(rt; block.entries().count(), rows.len());
+        assert_eq!(rt; alike(&block, *rows)?, rows.len());
     }
-    for (front, zeros, raw, entries) in &LARGE {
-        let bytes = with_zeros(rt.alloc(), front, *zeros)?;
-        let block = Block::read(&bytes, LARGEST_BLOCK)?;
-        assert_eq!(rt; block.raw().len(), *raw, "{raw} of {zeros}");
-        assert_eq!(rt; block.entries().count(), *entries, "{raw} of {zeros}");
-        assert_eq!(rt; Block::of(&bytes).entries().count(), *entries);
-    }
+    Ok(())
+}
+
+// Raw bytes and entries of blocks under the highest limit.
+const LARGE: &str = "0200000000000000000000000000000002000000: 65536: 0 0 0\n\
+    0200000000000000000000000000000002000000*29: 65536: 0 0 0\n\
+    0200000014000000010000000000000002000000*21: 65536: 1 0 0\n\
+    0200000014000000ecff00000000000002000000*65536: 65536: 65516 0 0\n\
+    02000000000000000000000000fa000002000000*64020: 65536: 0 1000 1000";
+
+#[test]
+fn a_block_may_have_much_behind_its_header(rt: HostRuntime) -> Result<(), Fail> {
+    assert_eq!(rt; right(rt.alloc(), Tell::Sizes, LARGE)?, 5);
     Ok(())
 }

@@ -1,64 +1,30 @@
 // Where areas stand, and which cells are mapped.
-use super::{ADDRESS, BLOCK_LENGTH, Change, STATUS, einj, hest};
-use crate::{Map, Owner};
-use apei_base::Space;
+use super::map_of;
+use crate::Map;
+use fw_cells::Cells;
+use std::alloc::Global;
 use std::test::Fail;
 
-// What stands in the table of two sources, and where the areas of the sources, the trigger table and the trigger cell begin.
-type Case = ([Change; 2], [u64; 4]);
+// What is changed in the sample, and where the areas of its sources, the trigger table and the trigger cell begin; 0 for one that is
+// not there. Each area of a source has 4,096 bytes, unless the block length says otherwise.
+// In order: as it is, without an injection table, and with source 1 alone enabled. Then a register stands at the lowest place; is in
+// the way of the last byte of an area, and not in that of the 48 bytes of the trigger table; stands behind the area; and stands before
+// it with its last bytes in the way. Then the area of 8,192 bytes has no room there, and that of 4,096 bytes has; a port is in the way
+// of no area; and an area has 65,536 bytes at most.
+const PLACES: &str = "/: 10000000 10010000 10020000 10030000\n\
+    : 10000000 10010000 0 0\n\
+    111=00 /: 10000000 0 10010000 10020000\n\
+    64=00000010 /: 10010000 10020000 10030000 10040000\n\
+    64=ff0f0010 /: 10010000 10020000 10000000 10030000\n\
+    64=00100010 /: 10000000 10010000 10020000 10030000\n\
+    64=fcffff0f /: 10010000 10020000 10030000 10040000\n\
+    64=00100010 100=0020 /: 10010000 10000000 10020000 10030000\n\
+    60=0120000300000010 /: 10000000 10010000 10020000 10030000\n\
+    100=00000200 /: 10000000 10010000 10020000 10030000";
 
-const NONE: Change = (0, &[]);
-
-// Each area of a source has 4,096 bytes, unless it says otherwise.
-const CASES: [Case; 9] = [
-    (
-        [NONE, NONE],
-        [0x1000_0000, 0x1001_0000, 0x1002_0000, 0x1003_0000],
-    ),
-    // Source 1 alone is enabled.
-    (
-        [(111, &[0]), NONE],
-        [0x1000_0000, 0, 0x1001_0000, 0x1002_0000],
-    ),
-    // A register stands at the lowest place.
-    (
-        [(ADDRESS, &[0, 0, 0, 0x10]), NONE],
-        [0x1001_0000, 0x1002_0000, 0x1003_0000, 0x1004_0000],
-    ),
-    // It is in the way of the last byte of an area, and not in that of the 48 bytes of the trigger table.
-    (
-        [(ADDRESS, &[0xff, 0x0f, 0, 0x10]), NONE],
-        [0x1001_0000, 0x1002_0000, 0x1000_0000, 0x1003_0000],
-    ),
-    // It stands behind the area, and one whose last bytes are in the way stands before it.
-    (
-        [(ADDRESS, &[0, 0x10, 0, 0x10]), NONE],
-        [0x1000_0000, 0x1001_0000, 0x1002_0000, 0x1003_0000],
-    ),
-    (
-        [(ADDRESS, &[0xfc, 0xff, 0xff, 0x0f]), NONE],
-        [0x1001_0000, 0x1002_0000, 0x1003_0000, 0x1004_0000],
-    ),
-    // The area of 8,192 bytes has no room there, and that of 4,096 bytes has.
-    (
-        [(ADDRESS, &[0, 0x10, 0, 0x10]), (BLOCK_LENGTH, &[0, 0x20])],
-        [0x1001_0000, 0x1000_0000, 0x1002_0000, 0x1003_0000],
-    ),
-    // A port is in the way of no area.
-    (
-        [(STATUS, &[1, 32, 0, 3, 0, 0, 0, 0x10]), NONE],
-        [0x1000_0000, 0x1001_0000, 0x1002_0000, 0x1003_0000],
-    ),
-    // An area has 65,536 bytes at most.
-    (
-        [(BLOCK_LENGTH, &[0, 0, 2, 0]), NONE],
-        [0x1000_0000, 0x1001_0000, 0x1002_0000, 0x1003_0000],
-    ),
-];
-
-// Where the areas of a map begin, in order; 0 for one that is not there.
-fn begins(map: &Map) -> [u64; 4] {
-    let mut found = [0; 4];
+// Where the areas of a map begin, in order.
+fn begins(alloc: Global, map: &Map) -> Result<String, Fail> {
+    let mut found = [0u64; 4];
     for (place, area) in map.areas.iter().enumerate() {
         if place < 2 {
             found[place] = area.first;
@@ -68,64 +34,77 @@ fn begins(map: &Map) -> [u64; 4] {
         found[2] = trigger.table.first;
         found[3] = trigger.cell.first;
     }
-    found
+    let [first, second, table, cell] = found;
+    Ok(format!(in alloc; "{first:x} {second:x} {table:x} {cell:x}")?)
+}
+
+// How many lines `WORDS: PLACES` are right, up to the first that is not.
+fn right(alloc: Global, lines: &str) -> Result<usize, Fail> {
+    let mut count = 0usize;
+    for line in lines.split('\n') {
+        let (words, want) = line.split_once(": ").unwrap_or(("", ""));
+        let map = map_of(alloc, words)??;
+        if begins(alloc, &map)?.as_str() != want {
+            return Ok(count);
+        }
+        count = count.saturating_add(1);
+    }
+    Ok(count)
 }
 
 #[test]
 fn areas_stand_at_the_lowest_places_that_are_free(rt: HostRuntime) -> Result<(), Fail> {
-    let einj = einj(rt.alloc(), NONE)?;
-    for (changes, places) in CASES {
-        let map = Map::of(rt.alloc(), &hest(rt.alloc(), changes)?, Some(&einj))?;
-        assert_eq!(rt; begins(&map), places);
-    }
-    let alone = Map::of(rt.alloc(), &hest(rt.alloc(), [NONE, NONE])?, None)?;
-    assert_eq!(rt; begins(&alone), [0x1000_0000, 0x1001_0000, 0, 0]);
+    assert_eq!(rt; right(rt.alloc(), PLACES)?, 10);
     Ok(())
 }
 
 // The registers of the samples, by owner, space, first address and number of bytes. Entries of the actions 0 and 4 have none.
-const REGISTERS: [(Owner, Space, u64, u32); 10] = [
-    (Owner::Source(1), Space::Memory, 0x7f00_0000, 8),
-    (Owner::Source(2), Space::Memory, 0x7f00_0008, 8),
-    (Owner::Source(2), Space::Memory, 0x7f00_1000, 4),
-    (Owner::Injection, Space::Memory, 0x7e00_0000, 8),
-    (Owner::Injection, Space::Memory, 0x7e00_0008, 4),
-    (Owner::Injection, Space::Memory, 0x7e00_000c, 4),
-    (Owner::Injection, Space::Port, 0xb2, 1),
-    (Owner::Injection, Space::Memory, 0x7e00_0010, 4),
-    (Owner::Injection, Space::Memory, 0x7e00_0010, 4),
-    (Owner::Injection, Space::Memory, 0x7e00_0040, 36),
-];
+const REGISTERS: &str = "source 1 Memory 7f000000 8\n\
+    source 2 Memory 7f000008 8\n\
+    source 2 Memory 7f001000 4\n\
+    injection Memory 7e000000 8\n\
+    injection Memory 7e000008 4\n\
+    injection Memory 7e00000c 4\n\
+    injection Port b2 1\n\
+    injection Memory 7e000010 4\n\
+    injection Memory 7e000010 4\n\
+    injection Memory 7e000040 36\n";
 
 // The regions of mapped cells, by space, first address and number of bytes.
-const REGIONS: [(Space, u64, usize); 9] = [
-    (Space::Memory, 0x1000_0000, 4096),
-    (Space::Memory, 0x1001_0000, 4096),
-    (Space::Memory, 0x1002_0000, 48),
-    (Space::Memory, 0x1003_0000, 4),
-    (Space::Memory, 0x7e00_0000, 20),
-    (Space::Memory, 0x7e00_0040, 36),
-    (Space::Memory, 0x7f00_0000, 16),
-    (Space::Memory, 0x7f00_1000, 4),
-    (Space::Port, 0xb2, 1),
-];
+const REGIONS: &str = "Memory 10000000 4096\n\
+    Memory 10010000 4096\n\
+    Memory 10020000 48\n\
+    Memory 10030000 4\n\
+    Memory 7e000000 20\n\
+    Memory 7e000040 36\n\
+    Memory 7f000000 16\n\
+    Memory 7f001000 4\n\
+    Port b2 1\n";
+
+fn registers_of(alloc: Global, map: &Map) -> Result<String, Fail> {
+    let mut text = String::new(alloc);
+    for register in &map.registers {
+        let run = register.run;
+        let (owner, space, first, bytes) = (register.owner, run.space, run.first, run.bytes);
+        text.push_str(&format!(in alloc; "{owner} {space:?} {first:x} {bytes}\n")?)?;
+    }
+    Ok(text)
+}
+
+fn regions_of(alloc: Global, cells: &Cells) -> Result<String, Fail> {
+    let mut text = String::new(alloc);
+    for region in cells.regions() {
+        let (space, first, bytes) = (region.space, region.first, region.bytes.as_slice().len());
+        text.push_str(&format!(in alloc; "{space:?} {first:x} {bytes}\n")?)?;
+    }
+    Ok(text)
+}
 
 #[test]
 fn the_cells_of_registers_and_areas_are_mapped(rt: HostRuntime) -> Result<(), Fail> {
-    let einj = einj(rt.alloc(), NONE)?;
-    let map = Map::of(rt.alloc(), &hest(rt.alloc(), [NONE, NONE])?, Some(&einj))?;
-    assert_eq!(rt; map.registers.len(), REGISTERS.len());
-    for (register, (owner, space, first, bytes)) in map.registers.iter().zip(REGISTERS) {
-        let run = register.run;
-        assert_eq!(rt; (run.space, run.first, run.bytes), (space, first, bytes));
-        assert_eq!(rt; register.owner, owner, "at {first}");
-    }
+    let map = map_of(rt.alloc(), "/")??;
+    assert_eq!(rt; registers_of(rt.alloc(), &map)?.as_str(), REGISTERS);
     let cells = map.cells(rt.alloc())?;
-    let regions = cells.regions();
-    assert_eq!(rt; regions.len(), REGIONS.len());
-    for (region, (space, first, length)) in regions.iter().zip(REGIONS) {
-        assert_eq!(rt; (region.space, region.first), (space, first));
-        assert_eq!(rt; region.bytes.as_slice().len(), length, "at {first}");
-    }
+    assert_eq!(rt; regions_of(rt.alloc(), &cells)?.as_str(), REGIONS);
     Ok(())
 }
