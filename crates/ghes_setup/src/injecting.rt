@@ -1,7 +1,6 @@
 //! What makes the injections of a script: the machine that injects, driven by its table.
 ghost use Rattle.std.specs.Prelude.{◌≡◌, IfOk};
 ghost use Rattle.fw_einj.specs.Machine.{machine_of};
-ghost use Rattle.ghes_lines.specs.Injector.{IsInjected};
 ghost use Rattle.ghes_setup.specs.Injecting.{refused_end, triggered, injected_by, IsInjection};
 
 use apei_einj::{Einj, InjectError, Injected as Done, Request};
@@ -96,15 +95,17 @@ impl Injecting {
 }
 
 impl Injector for Injecting {
-    ghost use Rattle.ghes_setup.specs.Injecting.{seen_of, Injects};
+    ghost use Rattle.ghes_setup.specs.Injecting.{InjectingSeen, seen_of, Injects};
 
     ghost sources = { λ injecting. (seen_of injecting).sources };
 
-    fn inject(&mut self, request: &Request) -> Result<Injected, AllocError>
-        ensures made { IfOk result (IsInjected (seen_of self.old).sources) }
-        ensures sources { (seen_of self.new).sources ≡ (seen_of self.old).sources }
-        ensures does { IfOk result (λ injected. Injects (seen_of self.old) request.now injected (seen_of self.new)) }
-    {
+    ghost State = { InjectingSeen };
+
+    ghost state = { seen_of };
+
+    ghost does = { Injects };
+
+    fn inject(&mut self, request: &Request) -> Result<Injected, AllocError> {
         an_injected_block_is_well_formed();
         let Some(einj) = &self.einj else {
             return Ok(Injected::Ended(InjectionEnd::NotAvailable));
