@@ -43,9 +43,10 @@ pub record IsOneAccess {S T E : Type 0} (step : S → Access → S → Type 0) (
   pub ok : IfOk result (λ value. step before (access value) after)
   pub err : OnErr result (after ≡ before)
 
--- The count of failed accesses rose where the call failed, is what it was where it did not, and never falls (own choice).
+-- The count of failed accesses rose by one where the call failed, so that no access follows the one that failed; it is
+-- what it was where the call did not fail, and never falls (own choice).
 pub record CountsFaults {T E : Type 0} (result : Result T E) (before after : ℕ) : Type 0 where
-  pub cause : OnErr result (before < after)
+  pub cause : OnErr result (after ≡ before + 1)
   pub unfailed : OnOk result (after ≡ before)
   pub grows : before ≤ after
 

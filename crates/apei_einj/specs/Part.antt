@@ -55,16 +55,16 @@ module _ {S : Type 0} (step : S → Access → S → Type 0) where
   Acts entries action value before (Err error) after =
       (error ≡ errors.Fault) × IsCutOff step (of_action action entries) value before after
 
--- the count of failed accesses rises where the answer is that one failed, and stays where it is another refusal
+-- the count of failed accesses rises by one where the answer is that one failed, and stays where it is another refusal
 abbrev pub CountsError : InjectError → ℕ → ℕ → Type 0
 CountsError errors.NotAvailable before after = after ≡ before
 CountsError errors.Busy before after = after ≡ before
 CountsError (errors.Status value) before after = after ≡ before
 CountsError (errors.Trigger reason) before after = after ≡ before
-CountsError errors.Fault before after = before < after
+CountsError errors.Fault before after = after ≡ before + 1
 CountsError errors.NoAddress before after = after ≡ before
 
--- the count of failed accesses rises where the answer is that one failed, and stays with every other answer
+-- the count of failed accesses rises by one where the answer is that one failed, and stays with every other answer
 abbrev pub CountsFault : {A : Type 0} → Result A InjectError → ℕ → ℕ → Type 0
 CountsFault (Ok found) before after = after ≡ before
 CountsFault (Err error) before after = CountsError error before after

@@ -42,7 +42,7 @@ module _ {P : Type 0} where
     pub counted : calls_of new ≡ with_call (calls_of old)
     pub raised : own_faults new ≡ own_faults old + one_if (fails_next (calls_of old))
     pub planned : IsTrue (fails_next (calls_of old)) → IsTrue failed × (inner_of new ≡ inner_of old)
-    pub other : IsTrue failed → fails_next (calls_of old) ≡ false → faults (inner_of old) < faults (inner_of new)
+    pub other : IsTrue failed → fails_next (calls_of old) ≡ false → faults (inner_of new) ≡ faults (inner_of old) + 1
 
   -- what the inner memory means, but that more accesses may fail by plan (own choice)
   abbrev pub seen_of : (P → Seen) → Faulty P → Seen

@@ -5,7 +5,7 @@ use std::alloc::{AllocError, Global};
 use std::marker::Model;
 
 // The zeros that make a buffer longer, a piece at a time.
-const ZEROS: [u8; 128] = [0; 128];
+const ZEROS: [u8; 4096] = [0; 4096];
 
 /// Bytes in memory that was made before. A contract sees the bytes, and how many there is room for.
 ///
@@ -60,7 +60,7 @@ impl Buffer {
 
     // Adds so many zeros.
     fn add_zeros(&mut self, count: usize)
-        requires piece { count ≤ 128 }
+        requires piece { count ≤ 4096 }
         requires room { length self.old.bytes + count ≤ self.old.room }
         ensures length { length self.new.bytes ≡ length self.old.bytes + count }
         ensures room { self.old.room ≤ self.new.room }
