@@ -1,5 +1,5 @@
 -- Parts of an injection, each of which finds something or ends the injection, one after another.
-use Rattle.std.specs.Prelude.{◌≡◌, ◌<◌, ◌⊎◌, ℕ, zero, suc, List, [], length, Option, Result, Ok, Err}
+use Rattle.std.specs.Prelude.{◌≡◌, ◌⊎◌, ℕ, ◌+◌, zero, suc, List, [], length, Option, Result, Ok, Err}
 use Rattle.std.specs.Result.{result_err}
 use Rattle.apei_base.specs.Bus.{Reach, Access, Writes, Copies}
 use Rattle.apei_base.specs.declared.region.Space.TheVariants.{Memory}
