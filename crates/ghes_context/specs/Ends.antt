@@ -1,5 +1,5 @@
 -- What each end of a call answers and leaves of the source's memory, by its reply.
-use Rattle.std.specs.Prelude.{◌<◌, ℕ, ◌+◌, Bool, true, false, if◌then◌else◌, List, slice_index, slice_set, Option}
+use Rattle.std.specs.Prelude.{◌≡◌, ℕ, ◌+◌, Bool, true, false, if◌then◌else◌, List, slice_index, slice_set, Option}
 use Rattle.apei_base.specs.Firmware.{Seen, cleared}
 use Rattle.ghes_call.specs.Receive.{AckRuleSeen}
 use Rattle.ghes_call.specs.Call.{Failure, BeforeCleared, Saw, acknowledges, ack_of, acknowledged_by}
@@ -63,9 +63,9 @@ left_by rule reply port =
 abbrev pub ack_by : Option AckRuleSeen → Reply → AckState
 ack_by rule reply = if acknowledges reply.outcome then ack_of rule (failure_by reply.outcome reply.ack) else NotAsked
 
--- the count of failed accesses rose exactly where the reply says that an access failed
+-- the count of failed accesses rose exactly where the reply says that an access failed, and then by one
 abbrev pub CountsCall : Outcome → AckState → ℕ → ℕ → Type 0
-CountsCall Fault ack before after = before < after
+CountsCall Fault ack before after = after ≡ before + 1
 CountsCall Nothing ack before after = CountsAck ack before after
 CountsCall (Queued number) ack before after = CountsAck ack before after
 CountsCall (Malformed number reason) ack before after = CountsAck ack before after

@@ -1,5 +1,5 @@
 -- One call of a context: what it answers, and what it leaves.
-use Rattle.std.specs.Prelude.{◌≡◌, ◌<◌, ℕ, true, [], ◌∷◌, ◌++◌, IfSome, slice_get, slice_index}
+use Rattle.std.specs.Prelude.{◌≡◌, ℕ, ◌+◌, true, [], ◌∷◌, ◌++◌, IfSome, slice_get, slice_index}
 use mathlib.Core.List.{IsPrefix}
 use Rattle.apei_base.specs.Firmware.{Seen}
 use Rattle.ghes_call.specs.Call.{Failure, Nowhere, BeforeCleared, BehindCleared, Saw, IsCall}
@@ -19,11 +19,11 @@ pub record IsPortOf (context : ContextSeen) (source : ℕ) (port : Seen) : Type 
   pub source_is : IfSome (slice_get context.sources source) (λ receive. IsOfSource (receive_seen receive) port.layout)
   pub counted_is : port.acknowledged ≡ slice_index context.acknowledged source
 
--- the count of failed accesses rose where an access failed, and is what it was where none did
+-- the count of failed accesses rose by one where an access failed, and is what it was where none did
 abbrev pub CountsFailure : Failure → ℕ → ℕ → Type 0
 CountsFailure Nowhere before after = after ≡ before
-CountsFailure BeforeCleared before after = before < after
-CountsFailure BehindCleared before after = before < after
+CountsFailure BeforeCleared before after = after ≡ before + 1
+CountsFailure BehindCleared before after = after ≡ before + 1
 
 -- What a call saw: the one load of the panic word, the memory before it, the report that its image hits in the list seen in this call,
 -- that each of the K slots was found taken by a look of this call where it saw the slots full, and where an access failed.

@@ -1,5 +1,5 @@
 -- One call of the receiver on one thread: what it answers, and what it leaves of the source's memory and of the pending packets.
-use Rattle.std.specs.Prelude.{◌≡◌, ◌<◌, ℕ, Bool, true, false, List, [], ◌∷◌, ◌++◌, if◌then◌else◌, length, Option, Some, None, unwrap_or}
+use Rattle.std.specs.Prelude.{◌≡◌, ◌<◌, ℕ, ◌+◌, Bool, true, false, List, [], ◌∷◌, ◌++◌, if◌then◌else◌, length, Option, Some, None, unwrap_or}
 use Rattle.apei_base.specs.Firmware.{Seen, standing, standing_number, cleared}
 use Rattle.cper_block.specs.Image.{image_reason}
 use Rattle.cper_block.specs.declared.malformed.Malformed.{Malformed as Reason}
@@ -46,9 +46,9 @@ left_by rule reply port =
 abbrev pub ack_by : Option AckRuleSeen → Reply → AckState
 ack_by rule reply = if acknowledges reply.outcome then ack_of rule (failure_by reply.outcome reply.ack) else NotAsked
 
--- the count of failed accesses rose exactly where the reply says that an access failed
+-- the count of failed accesses rose exactly where the reply says that an access failed, and then by one
 abbrev pub CountsCall : Outcome → AckState → ℕ → ℕ → Type 0
-CountsCall Fault ack before after = before < after
+CountsCall Fault ack before after = after ≡ before + 1
 CountsCall Nothing ack before after = CountsAck ack before after
 CountsCall (Queued number) ack before after = CountsAck ack before after
 CountsCall (Malformed number reason) ack before after = CountsAck ack before after

@@ -1,5 +1,5 @@
 -- What each step of a call answers and leaves.
-use Rattle.std.specs.Prelude.{◌≡◌, ◌<◌, ℕ, ◌==◌, Bool, true, false, if◌then◌else◌, List, Option, Some, None, option_map}
+use Rattle.std.specs.Prelude.{◌≡◌, ℕ, ◌+◌, ◌==◌, Bool, true, false, if◌then◌else◌, List, Option, Some, None, option_map}
 use Rattle.apei_base.specs.Firmware.{Seen, standing}
 use Rattle.cper_block.specs.Header.{header_size}
 use Rattle.cper_block.specs.Image.{padded, is_fatal}
@@ -43,8 +43,8 @@ failure_of NotAsked = Nowhere
 failure_of Done = Nowhere
 failure_of Failed = BehindCleared
 
--- the count of failed accesses rose exactly where the acknowledgement failed
+-- the count of failed accesses rose exactly where the acknowledgement failed, and then by one
 abbrev pub CountsAck : AckState → ℕ → ℕ → Type 0
 CountsAck NotAsked before after = after ≡ before
 CountsAck Done before after = after ≡ before
-CountsAck Failed before after = before < after
+CountsAck Failed before after = after ≡ before + 1
