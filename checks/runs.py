@@ -11,7 +11,6 @@ import tempfile
 
 TOP = pathlib.Path(__file__).resolve().parent.parent
 USAGE = "ghes: usage: replay HEST EINJ SCRIPT | check HEST EINJ | decode BLOCK | load N\n"
-NOT_BUILT = "ghes: hest: 9 not built\n"
 HEADER = bytes.fromhex("484553546800000001404748455352545245504c4159303101000000474845530100000001000000")
 SOURCE = bytes.fromhex(
     "09000100ffff0001010000000100000000000000004000040000007f00000000"
@@ -72,6 +71,13 @@ def summary(raised, acknowledged, delivered, dropped=0, panic=0, no_slot=0, sour
     )
 
 
+def totals(sources, reports, no_slot=0, fault=0):
+    """The summary of sources, each with its raised, acknowledged and delivered blocks."""
+    lines = "".join(f"source {i}: raised {r}, acknowledged {a}, delivered {d}, duplicate 0, dropped 0, panic 0\n"
+                    for i, r, a, d in sources)
+    return f"summary\n{lines}reports {reports}, repeats 0, no slot {no_slot}, fault {fault}\n"
+
+
 ONE = HEADER + SOURCE
 EINJ = (TOP / "crates/ghes/data/einj.bin").read_bytes()
 SERVER_TEXT = (
@@ -83,7 +89,7 @@ SERVER_TEXT = (
 
 def usages():
     """Words that are no form of the command line."""
-    for words in ["", "--help", "replay h", "replay h -", "replay h e s", "replay h - s more", "check", "check h",
+    for words in ["", "--help", "replay h", "replay h -", "replay h - s more", "check", "check h",
                   "check h - more", "Check h -", "decode", "decode h more", "load 8"]:
         yield f"the words {words!r}", {"h": ONE, "s": b""}, words, 2, USAGE
 
@@ -148,12 +154,12 @@ def tables():
 
 
 def served():
-    """On which tables a script is replayed. Where one is not served, the script is not looked at."""
-    for name, h in [
-        ("none", table()), ("disabled", table(changed(SOURCE, {7: 0}))), ("two", server(1)), ("version 2", table(SOURCE_2)),
-        ("8 bits", table(changed(SOURCE, {21: 8, 23: 1}))), ("16 bits", table(changed(SOURCE, {21: 16, 23: 2}))),
-    ]:
-        yield f"not served: {name}", {"h": h}, "replay h - s", 3, NOT_BUILT
+    """On which tables a script is replayed."""
+    for name, h in [("none", table()), ("disabled", table(changed(SOURCE, {7: 0})))]:
+        yield f"no source: {name}", {"h": h, "s": b"nmi 1\n"}, "replay h - s", 4, "ghes: script: line 1: 9 source\n"
+        yield f"an empty script on no source: {name}", {"h": h, "s": b""}, "replay h - s", 0, totals([], 0)
+    for name, changes in [("8 bits", {21: 8, 23: 1}), ("16 bits", {21: 16, 23: 2})]:
+        yield f"narrow: {name}", {"h": table(changed(SOURCE, changes))}, "replay h - s", 8, "ghes: platform: 3 narrow source 1\n"
     two = server(1)
     more = changed(two, {36: 8, 9: (two[9] - 1) % 256})
     yield "judged before it is served", {"h": more}, "replay h - s", 3, "ghes: hest: 4 count says 8, found 7\n"
@@ -163,15 +169,52 @@ def served():
     yield ("behind skipped and disabled ones", {"h": server(0), "s": script}, "replay h - s", 0,
            "nmi 9: queued 1\nreport source 9 block 1\n  severity corrected\n" + summary(1, 1, 1, source=9))
     yield ("a disabled source is none of the script's", {"h": server(0), "s": b"nmi 8\n"}, "replay h - s", 4,
-           "ghes: script: line 1: 1 command\n")
+           "ghes: script: line 1: 9 source\n")
     yield "a table named by a hyphen", {"-": ONE, "s": b""}, "replay - - s", 0, summary(0, 0, 0)
+    lap = table(SOURCE, changed(SOURCE_2, {24: 4}))
+    line = "ghes: platform: 1 overlap of source 1 and source 2 at memory 0x000000007f000004\n"
+    yield "registers that overlap, before the script is loaded", {"h": lap}, "replay h - s", 8, line
+    yield "the injection table before them", {"h": lap, "e": changed(EINJ, {9: 0})}, "replay h e s", 3, "ghes: einj: 1 table: 4 checksum\n"
+
+
+def machines():
+    """What a machine of several sources prints, with its settings and injections."""
+    z, zi = BARE, BARE[:32] + "03" + BARE[34:]
+    files = {"one": ONE, "two": table(SOURCE, SOURCE_2), "v2": table(SOURCE_2), "e": EINJ, "server": server(1)}
+    report = "report source {} block 1\n  severity {}\n"
+    memory = ("  severity corrected\n  entry 0 memory severity corrected\n    physical address 0x0000000012345678\n"
+              "    mask 0xfffffffffffff000\n    type 0x02\n")
+    asked = "inject 0x8 memory 0x12345678 0xfffffffffffff000\nnmi 1\n"
+    for name, words, script, text in [
+        ("a pool of one slot", "two -", f"slots 1\nraise 1 {z}\nraise 2 {zi}\nnmi 1\nnmi 2\nwork\nnmi 2\n",
+         "nmi 1: queued 1\nnmi 2: no slot\n" + report.format(1, "corrected") + "nmi 2: queued 1\n" + report.format(2, "none")
+         + totals([(1, 1, 1, 1), (2, 1, 1, 1)], 2, no_slot=1)),
+        ("a read ack register", "v2 -", f"ackcell 2 0xabcd00f0\nraise 2 {z}\nnmi 2\npeek 2\n",
+         "nmi 2: queued 1\ncell 2: 0xabcd00f1\n" + report.format(2, "corrected") + summary(1, 1, 1, source=2)),
+        ("a server's sources", "server -", f"raise 8 {z}\nraise 9 {zi}\nnmi 8\nnmi 9\n",
+         "nmi 8: queued 1\nnmi 9: queued 1\n" + report.format(8, "corrected") + report.format(9, "none")
+         + totals([(8, 1, 1, 1), (9, 1, 1, 1)], 2)),
+        *[(f"an injection that is busy {n} times", "one e", f"busy {n}\n" + asked,
+           "inject 0x00000008: source 1 block 1\nnmi 1: queued 1\nreport source 1 block 1\n" + memory + summary(1, 1, 1))
+          for n in (2, 999)],
+        ("an injection that stays busy", "one e", "busy 1000\n" + asked,
+         "inject 0x00000008: busy\nnmi 1: nothing\n" + summary(0, 0, 0)),
+        ("a type that is not available", "one e", "available 0x1\ninject 0x8\n", "inject 0x00000008: not available\n" + summary(0, 0, 0)),
+        ("a command status", "one e", f"status 2\ninject 0x8\nraise 1 {z}\nnmi 1\n",
+         "inject 0x00000008: status 2\nnmi 1: queued 1\n" + report.format(1, "corrected") + summary(1, 1, 1)),
+        ("a call whose access fails", "one -", f"raise 1 {z}\nfail 1 1\nnmi 1\nnmi 1\n",
+         "nmi 1: fault\nnmi 1: queued 1\n" + report.format(1, "corrected") + totals([(1, 1, 1, 1)], 1, fault=1)),
+    ]:
+        yield name, {**files, "s": script.encode()}, f"replay {words} s", 0, text
 
 
 def scripts():
     """At which line a script is refused."""
     for script, end in [
         ("work\nnmi 1\nworks\nnmi 7\n", "3: 1 command"),
-        ("raise 7 zz\n", "1: 1 command"),
+        ("raise 7 zz\n", "1: 9 source"),
+        ("nmi 1\nslots 2\n", "2: 6 order"),
+        ("inject 0x8\n", "1: 10 no injection"),
         ("raise 1 020\n", "1: 4 hex"),
         (f"raise 1 {BARE}\nraise 1 zz\n", "2: 4 hex"),
         ("work\nraise 1 0000000000000000000000000000000002000000", "2: 5 range"),
@@ -311,7 +354,7 @@ def blocks():
 
 def main():
     failures = count = 0
-    for topic in [usages, listings, tables, served, scripts, replays, limits, rounds, blocks]:
+    for topic in [usages, listings, tables, served, machines, scripts, replays, limits, rounds, blocks]:
         for name, files, words, status, text in topic():
             with tempfile.TemporaryDirectory() as folder:
                 for file, contents in files.items():

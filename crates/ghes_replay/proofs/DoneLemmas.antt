@@ -1,122 +1,127 @@
--- What a task answers, by its parts: the first file, then the second, then the text.
-use Rattle.std.proofs.Common.{◌≡◌, ◌+◌, ℕ, List, [], ◌∷◌, Option, None, Result, Ok, Err, IfOk, inl, inr}
-use Rattle.std.specs.List.{AllByRecursion}
+-- What a task answers, by its parts: the tables, then what stands behind them, then the text.
+use Rattle.std.proofs.Common.{◌≡◌, ℕ, List, Option, None, Result, Ok, Err, IfOk, IfErr, inl, inr}
 use Rattle.apei_einj.specs.declared.entry.Entry.{Entry}
-use Rattle.apei_hest.specs.declared.source.Ghes.{Ghes}
+use Rattle.apei_hest.specs.Refusal.{enabled}
 use Rattle.apei_hest.specs.declared.source.Source.{Source}
 use Rattle.ghes_outside.specs.Outside.{FilesSeen}
-use Rattle.ghes_plain_script.specs.Script.{IsLineOf, IsOfFirst, SpellsFrom}
-use Rattle.ghes_plain_script.specs.declared.line.Line.{Line}
-use Rattle.ghes_plain_script.specs.declared.line.What.{What}
-use Rattle.ghes_plain_script.specs.declared.line.What.TheVariants.{Raise, Nmi, Work}
 use Rattle.ghes_replay.specs.declared.exit.InputFile.TheVariants as files
 use Rattle.ghes_replay.specs.declared.exit.Refusal.{Refusal}
 use Rattle.ghes_replay.specs.Check.{check_text}
 use Rattle.ghes_replay.specs.Decode.{Decodes}
-use Rattle.ghes_replay.specs.Done.{Output, IsDone, TaskCause, Does, TellsLines, RunsLines, Prints}
-use Rattle.ghes_replay.specs.Loading.{HasHest, HasTable, HasScript, HasInjection, HasLines, LoadCause, HestCause, SourceCause, EinjCause, ScriptCause, LoadsFile, LoadsHest, LoadsSource, LoadsInjection, LoadsScript}
-use Rattle.ghes_replay.specs.Seen.{IsLoaded, NoneFailed}
-use Rattle.ghes_replay.specs.Task.{Replay, Check, Decode, IsEinjName, IsFileOf}
-use Rattle.ghes_replay.proofs.FileLemmas.{lines_earlier, script_earlier, injection_earlier, einj_earlier}
-use Rattle.ghes_replay.proofs.WorkLemmas.{goes_on, stops, then_works, for_memory}
-
--- the lines of a script are of the first source
-line_of_first : (id : ℕ) (what : What) (text : List ℕ) → IsLineOf id what text → IsOfFirst what
-line_of_first id (Raise source block) text line = line.0
-line_of_first id (Nmi source) text line = line.0
-line_of_first id Work text line = tt
-
-pub all_of_first : (id number : ℕ) (bytes : List ℕ) (lines : List Line) → SpellsFrom id number bytes lines → AllByRecursion (λ line. IsOfFirst line.what) lines
-all_of_first id number bytes [] spells = tt
-all_of_first id number bytes (line ∷ lines) (text, rest, first, numbered, asks, more) = (line_of_first id line.what text asks, all_of_first id (number + 1) rest lines more)
+use Rattle.ghes_replay.specs.Done.{Output, IsDone, TaskCause, MachineCause, Does, DoesOn, TellsOn, TellsLines, RunsLines, Prints}
+use Rattle.ghes_replay.specs.Loading.{HasTables, HasScript, LoadCause, TablesCause, ScriptCause, LoadsFile, LoadsTables, LoadsScript, script_setup}
+use Rattle.ghes_replay.specs.Planned.{HasMachine, NoMachine}
+use Rattle.ghes_replay.specs.Seen.{IsLoaded}
+use Rattle.ghes_replay.specs.Task.{Replay, Check, Decode, IsTableName, IsFileOf}
+use Rattle.ghes_replay.proofs.FileLemmas.{script_had_earlier, script_earlier}
+use Rattle.ghes_replay.proofs.LoadLemmas.{no_loads, none_in}
+use Rattle.ghes_replay.proofs.WorkLemmas.{counts_none, goes_on, stops, then_works, for_memory}
+use Rattle.ghes_script.specs.declared.line.Line.{Line}
 
 abbrev IsName : List ℕ → List ℕ → Type 0
 IsName name other = other ≡ name
 
-abbrev IsNamed : List ℕ → List ℕ → Type 0
-IsNamed name other = (other ≡ name) × IsEinjName name
+-- both tables of a task are accepted
+abbrev Both : FilesSeen → List ℕ → List ℕ → List Source × Option (List Entry) → Type 0
+Both seen hest einj tables = HasTables seen hest einj tables.0 tables.1
 
-abbrev NamedCause : FilesSeen → FilesSeen → List ℕ → Refusal → Type 0
-NamedCause before after name refusal = IsEinjName name × EinjCause before after name refusal
+-- there is no machine of the tables
+pub no_machine : (seen : FilesSeen) (script : List ℕ) (found : List Source) (injection : Option (List Entry)) (refusal : Refusal) → NoMachine (enabled found) injection refusal → DoesOn seen seen script found injection (Err refusal)
+no_machine seen script found injection refusal none = record {
+  loads = no_loads (IsName script) seen;
+  unfailed = tt;
+  counted = counts_none seen seen refusal (none_in seen);
+  found = tt;
+  refused = inl none;
+}
 
-named_earlier : (before middle after : FilesSeen) (einj : List ℕ) (refusal : Refusal) → middle.contents einj ≡ before.contents einj → NoneFailed before middle → NamedCause middle after einj refusal → NamedCause before after einj refusal
-named_earlier before middle after einj refusal same none (named, cause) = (named, einj_earlier before middle after einj refusal same none cause)
+module _ (before after : FilesSeen) (script : List ℕ) (found : List Source) (injection : Option (List Entry)) (machine : HasMachine (enabled found) injection) where
+  -- the script was refused
+  pub script_stops : (refusal : Refusal) → LoadsScript before after script (script_setup found injection) (Err refusal) → DoesOn before after script found injection (Err refusal)
+  script_stops refusal loaded =
+      stops (IsName script) (IsName script) before after (HasScript before script (script_setup found injection)) (ScriptCause before after script (script_setup found injection))
+      (TellsOn before script found injection) (MachineCause before after script found injection) refusal (λ name is. is) (λ cause. inr (machine, inl cause)) loaded
 
--- the lines were replayed, or memory ran out
-lines_told : (before : FilesSeen) (hest script : List ℕ) (ghes : Ghes) (lines : List Line) (done : Output) → HasTable before hest ghes → HasScript before script ghes lines → TellsLines ghes lines done → IsDone before (Replay hest script) done
-lines_told before hest script ghes lines done table spelled (ledger, is, history, lawful, told) =
-    (ledger, is, record { ghes = ghes; table = table; lines = lines; spelled = spelled; history = history; lawful = lawful; told = told })
+  -- the lines were replayed, or not to their end
+  lines_told : (lines : List Line) (done : Output) → HasScript before script (script_setup found injection) lines → TellsLines found injection lines done → TellsOn before script found injection done
+  lines_told lines done spelled (ledger, is, replay) =
+      (ledger, is, record { machine = machine; lines = lines; spelled = spelled; replay = replay })
 
-lines_done : (before : FilesSeen) (hest script : List ℕ) (ghes : Ghes) (lines : List Line) (result : Result Output Refusal) → HasTable before hest ghes → HasLines before script ghes lines → RunsLines ghes lines result → IfOk result (IsDone before (Replay hest script))
-lines_done before hest script ghes lines (Ok done) table (spelled, few) runs = lines_told before hest script ghes lines done table spelled runs.found
-lines_done before hest script ghes lines (Err refusal) table spelled runs = tt
+  lines_done : (lines : List Line) (result : Result Output Refusal) → HasScript before script (script_setup found injection) lines → RunsLines found injection lines result → IfOk result (TellsOn before script found injection)
+  lines_done lines (Ok done) spelled runs = lines_told lines done spelled runs.told
+  lines_done lines (Err refusal) spelled runs = tt
 
-pub replay_goes : (before middle after : FilesSeen) (hest script : List ℕ) (ghes : Ghes) (lines : List Line) (result : Result Output Refusal) → LoadsSource before middle hest (Ok ghes) → LoadsScript middle after script ghes (Ok lines) → RunsLines ghes lines result → Does before after (Replay hest script) result
-replay_goes before middle after hest script ghes lines result table loaded runs =
-    let both = then_works (IsName hest) (IsName script) (IsFileOf (Replay hest script)) before middle after
-    (HasTable before hest) (SourceCause before middle hest) (HasLines middle script ghes) (HasLines before script ghes)
-    (ScriptCause middle after script ghes) (ScriptCause before after script ghes) ghes (Ok lines)
-    (λ name is. inl is) (λ name is. inr is) (λ found has. lines_earlier before middle script ghes found (table.loads.contents script) has)
-    (λ refusal cause. script_earlier before middle after script ghes refusal (table.loads.contents script) table.unfailed cause) table loaded in
-    goes_on (IsFileOf (Replay hest script)) (IsFileOf (Replay hest script)) before after (HasLines before script ghes) (ScriptCause before after script ghes)
-    (IsDone before (Replay hest script)) (TaskCause before after (Replay hest script)) lines result (λ name is. is) both
-    (lines_done before hest script ghes lines result table.found both.found runs)
-    (for_memory (TaskCause before after (Replay hest script)) result (inl tt) runs.refused)
+  lines_stopped : (lines : List Line) (result : Result Output Refusal) → HasScript before script (script_setup found injection) lines → RunsLines found injection lines result → IfErr result (MachineCause before after script found injection)
+  lines_stopped lines (Ok done) spelled runs = tt
+  lines_stopped lines (Err refusal) spelled runs = inr (machine, inr (lines, spelled, runs.refused))
 
--- the script was refused
-pub replay_refused : (before middle after : FilesSeen) (hest script : List ℕ) (ghes : Ghes) (refusal : Refusal) → LoadsSource before middle hest (Ok ghes) → LoadsScript middle after script ghes (Err refusal) → Does before after (Replay hest script) (Err refusal)
-replay_refused before middle after hest script ghes refusal table loaded =
-    let both = then_works (IsName hest) (IsName script) (IsFileOf (Replay hest script)) before middle after
-    (HasTable before hest) (SourceCause before middle hest) (HasLines middle script ghes) (HasLines before script ghes)
-    (ScriptCause middle after script ghes) (ScriptCause before after script ghes) ghes (Err refusal)
-    (λ name is. inl is) (λ name is. inr is) (λ found has. lines_earlier before middle script ghes found (table.loads.contents script) has)
-    (λ why cause. script_earlier before middle after script ghes why (table.loads.contents script) table.unfailed cause) table loaded in
-    stops (IsFileOf (Replay hest script)) (IsFileOf (Replay hest script)) before after (HasLines before script ghes) (ScriptCause before after script ghes)
-    (IsDone before (Replay hest script)) (TaskCause before after (Replay hest script)) refusal (λ name is. is) (λ cause. inr (ghes, table.found, cause)) both
+  pub script_goes : (lines : List Line) (result : Result Output Refusal) → LoadsScript before after script (script_setup found injection) (Ok lines) → RunsLines found injection lines result → DoesOn before after script found injection result
+  script_goes lines result loaded runs =
+      goes_on (IsName script) (IsName script) before after (HasScript before script (script_setup found injection)) (ScriptCause before after script (script_setup found injection))
+      (TellsOn before script found injection) (MachineCause before after script found injection) lines result (λ name is. is) loaded
+      (lines_done lines result loaded.found runs) (lines_stopped lines result loaded.found runs)
 
--- the table was refused
-pub replay_without_source : (before after : FilesSeen) (hest script : List ℕ) (refusal : Refusal) → LoadsSource before after hest (Err refusal) → Does before after (Replay hest script) (Err refusal)
-replay_without_source before after hest script refusal loaded =
-    stops (IsName hest) (IsFileOf (Replay hest script)) before after (HasTable before hest) (SourceCause before after hest)
-    (IsDone before (Replay hest script)) (TaskCause before after (Replay hest script)) refusal (λ name is. inl is) (λ cause. inl cause) loaded
+-- the tables were refused
+pub no_tables : (before after : FilesSeen) (hest einj script : List ℕ) (refusal : Refusal) → LoadsTables before after hest einj (Err refusal) → Does before after (Replay hest einj script) (Err refusal)
+no_tables before after hest einj script refusal tables =
+    stops (IsTableName hest einj) (IsFileOf (Replay hest einj script)) before after (Both before hest einj) (TablesCause before after hest einj)
+    (IsDone before (Replay hest einj script)) (TaskCause before after (Replay hest einj script)) refusal (λ name is. inl is) (λ cause. inl cause) tables
+
+module _ (before middle after : FilesSeen) (hest einj script : List ℕ) (found : List Source) (injection : Option (List Entry)) (tables : LoadsTables before middle hest einj (Ok (found, injection))) where
+  -- what was told behind the tables, told of the whole
+  told_earlier : (done : Output) → TellsOn middle script found injection done → IsDone before (Replay hest einj script) done
+  told_earlier done (ledger, is, on) = (
+    ledger,
+    is,
+    record {
+      found = found;
+      injection = injection;
+      tables = tables.found;
+      behind = record {
+        machine = on.machine;
+        lines = on.lines;
+        spelled = script_had_earlier before middle script (script_setup found injection) on.lines (tables.loads.contents script) on.spelled;
+        replay = on.replay;
+      };
+    },
+  )
+
+  behind_earlier : (refusal : Refusal) → MachineCause middle after script found injection refusal → MachineCause before after script found injection refusal
+  behind_earlier refusal (inl none) = inl none
+  behind_earlier refusal (inr (machine, inl cause)) =
+      inr (machine, inl (script_earlier before middle after script (script_setup found injection) refusal (tables.loads.contents script) tables.unfailed cause))
+  behind_earlier refusal (inr (machine, inr (lines, spelled, none))) =
+      inr (machine, inr (lines, script_had_earlier before middle script (script_setup found injection) lines (tables.loads.contents script) spelled, none))
+
+  pub replay_goes : (result : Result Output Refusal) → DoesOn middle after script found injection result → Does before after (Replay hest einj script) result
+  replay_goes result on =
+      then_works (IsTableName hest einj) (IsName script) (IsFileOf (Replay hest einj script)) before middle after
+      (Both before hest einj) (TablesCause before middle hest einj) (TellsOn middle script found injection) (IsDone before (Replay hest einj script))
+      (MachineCause middle after script found injection) (TaskCause before after (Replay hest einj script)) (found, injection) result
+      (λ name is. inl is) (λ name is. inr is) told_earlier
+      (λ refusal cause. inr (found, injection, tables.found, behind_earlier refusal cause)) tables on
 
 -- the tables were listed, or memory ran out
-listed_by : (before : FilesSeen) (hest einj : List ℕ) (found : List Source) (injection : Option (List Entry)) (done : Output) → HasHest before hest found → HasInjection before einj injection → (done.ledger ≡ None) × (done.text ≡ check_text found injection) → IsDone before (Check hest einj) done
-listed_by before hest einj found injection done table named (none, told) =
-    (none, record { found = found; table = table; injection = injection; named = named; told = told })
+listed_by : (before : FilesSeen) (hest einj : List ℕ) (found : List Source) (injection : Option (List Entry)) (done : Output) → HasTables before hest einj found injection → (done.ledger ≡ None) × (done.text ≡ check_text found injection) → IsDone before (Check hest einj) done
+listed_by before hest einj found injection done tables (none, told) =
+    (none, record { found = found; table = tables.table; injection = injection; named = tables.named; told = told })
 
-listed : (before : FilesSeen) (hest einj : List ℕ) (found : List Source) (injection : Option (List Entry)) (result : Result Output Refusal) → HasHest before hest found → HasInjection before einj injection → Prints (λ text. text ≡ check_text found injection) result → IfOk result (IsDone before (Check hest einj))
-listed before hest einj found injection (Ok done) table named prints = listed_by before hest einj found injection done table named prints.found
-listed before hest einj found injection (Err refusal) table named prints = tt
+listed : (before : FilesSeen) (hest einj : List ℕ) (found : List Source) (injection : Option (List Entry)) (result : Result Output Refusal) → HasTables before hest einj found injection → Prints (λ text. text ≡ check_text found injection) result → IfOk result (IsDone before (Check hest einj))
+listed before hest einj found injection (Ok done) tables prints = listed_by before hest einj found injection done tables prints.found
+listed before hest einj found injection (Err refusal) tables prints = tt
 
-pub listing_goes : (before middle after : FilesSeen) (hest einj : List ℕ) (found : List Source) (injection : Option (List Entry)) (result : Result Output Refusal) → LoadsHest before middle hest (Ok found) → LoadsInjection middle after einj (Ok injection) → Prints (λ text. text ≡ check_text found injection) result → Does before after (Check hest einj) result
-listing_goes before middle after hest einj found injection result table loaded prints =
-    let both = then_works (IsName hest) (IsNamed einj) (IsFileOf (Check hest einj)) before middle after
-    (HasHest before hest) (HestCause before middle hest) (HasInjection middle einj) (HasInjection before einj)
-    (NamedCause middle after einj) (NamedCause before after einj) found (Ok injection)
-    (λ name is. inl is) (λ name is. inr is) (λ some has. injection_earlier before middle einj some (table.loads.contents einj) has)
-    (λ why cause. named_earlier before middle after einj why (table.loads.contents einj) table.unfailed cause) table loaded in
-    goes_on (IsFileOf (Check hest einj)) (IsFileOf (Check hest einj)) before after (HasInjection before einj) (NamedCause before after einj)
-    (IsDone before (Check hest einj)) (TaskCause before after (Check hest einj)) injection result (λ name is. is) both
-    (listed before hest einj found injection result table.found both.found prints)
+pub listing_goes : (before after : FilesSeen) (hest einj : List ℕ) (found : List Source) (injection : Option (List Entry)) (result : Result Output Refusal) → LoadsTables before after hest einj (Ok (found, injection)) → Prints (λ text. text ≡ check_text found injection) result → Does before after (Check hest einj) result
+listing_goes before after hest einj found injection result tables prints =
+    goes_on (IsTableName hest einj) (IsFileOf (Check hest einj)) before after (Both before hest einj) (TablesCause before after hest einj)
+    (IsDone before (Check hest einj)) (TaskCause before after (Check hest einj)) (found, injection) result (λ name is. is) tables
+    (listed before hest einj found injection result tables.found prints)
     (for_memory (TaskCause before after (Check hest einj)) result (inl tt) prints.refused)
 
--- the injection table was refused
-pub listing_refused : (before middle after : FilesSeen) (hest einj : List ℕ) (found : List Source) (refusal : Refusal) → LoadsHest before middle hest (Ok found) → LoadsInjection middle after einj (Err refusal) → Does before after (Check hest einj) (Err refusal)
-listing_refused before middle after hest einj found refusal table loaded =
-    let both = then_works (IsName hest) (IsNamed einj) (IsFileOf (Check hest einj)) before middle after
-    (HasHest before hest) (HestCause before middle hest) (HasInjection middle einj) (HasInjection before einj)
-    (NamedCause middle after einj) (NamedCause before after einj) found (Err refusal)
-    (λ name is. inl is) (λ name is. inr is) (λ some has. injection_earlier before middle einj some (table.loads.contents einj) has)
-    (λ why cause. named_earlier before middle after einj why (table.loads.contents einj) table.unfailed cause) table loaded in
-    stops (IsFileOf (Check hest einj)) (IsFileOf (Check hest einj)) before after (HasInjection before einj) (NamedCause before after einj)
-    (IsDone before (Check hest einj)) (TaskCause before after (Check hest einj)) refusal (λ name is. is) (λ cause. inr (found, table.found, cause.0, cause.1)) both
-
--- the table was refused
-pub listing_without_table : (before after : FilesSeen) (hest einj : List ℕ) (refusal : Refusal) → LoadsHest before after hest (Err refusal) → Does before after (Check hest einj) (Err refusal)
-listing_without_table before after hest einj refusal loaded =
-    stops (IsName hest) (IsFileOf (Check hest einj)) before after (HasHest before hest) (HestCause before after hest)
-    (IsDone before (Check hest einj)) (TaskCause before after (Check hest einj)) refusal (λ name is. inl is) (λ cause. inl cause) loaded
+-- a table was refused
+pub listing_refused : (before after : FilesSeen) (hest einj : List ℕ) (refusal : Refusal) → LoadsTables before after hest einj (Err refusal) → Does before after (Check hest einj) (Err refusal)
+listing_refused before after hest einj refusal tables =
+    stops (IsTableName hest einj) (IsFileOf (Check hest einj)) before after (Both before hest einj) (TablesCause before after hest einj)
+    (IsDone before (Check hest einj)) (TaskCause before after (Check hest einj)) refusal (λ name is. is) (λ cause. cause) tables
 
 -- the block was printed, or memory ran out, or its file was refused
 printed_by : (before : FilesSeen) (block bytes : List ℕ) (done : Output) → IsLoaded before files.Block block bytes → (done.ledger ≡ None) × Decodes bytes done.text → IsDone before (Decode block) done

@@ -13,13 +13,13 @@ use Rattle.ghes_replay.specs.Refusal.{status_of, line_of, refused_name}
 use Rattle.ghes_replay.specs.Run.{AskNothing, EndsBy, EndsTask, IsUnlessFault, PutsLine, PutsText, RefusedBy, WasPut, bare_end, done_end, is_status}
 use Rattle.ghes_replay.specs.Seen.{Outside, NoneFailed}
 use Rattle.ghes_replay.specs.Task.{Task, Replay, Check, Decode, IsTask}
-use Rattle.ghes_replay.specs.Told.{HasBadTable, HasUnserved, HasBadScript, IsAccepted}
+use Rattle.ghes_replay.specs.Told.{HasBadTable, HasBadMachine, HasBadScript, IsAccepted}
 use Rattle.ghes_replay.proofs.LoadLemmas.{none_in}
-use Rattle.ghes_replay.proofs.TaskLemmas.{only_memory, not_done, table_refused, unserved_not_done, unserved_refused, script_not_done, script_refused}
+use Rattle.ghes_replay.proofs.TaskLemmas.{only_memory, not_done, table_refused, machine_not_done, machine_refused, script_not_done, script_refused}
 
 -- want of memory refuses each task
 memory_cause : (before after : FilesSeen) (task : Task) → TaskCause before after task refusals.OutOfMemory
-memory_cause before after (Replay hest script) = inl tt
+memory_cause before after (Replay hest einj script) = inl (inl tt)
 memory_cause before after (Check hest einj) = inl tt
 memory_cause before after (Decode block) = tt
 
@@ -32,13 +32,13 @@ refused_ends task before after refusal name end same cause counted (inr put) = i
 
 -- the words ask for one task
 same_task : (words : List (List ℕ)) (task task' : Task) → IsTask words task → IsTask words task' → task ≡ task'
-same_task words (Replay hest script) (Replay hest' script') is is' = cc
-same_task words (Replay hest script) (Check hest' einj') is is' = cc
-same_task words (Replay hest script) (Decode block') is is' = cc
-same_task words (Check hest einj) (Replay hest' script') is is' = cc
+same_task words (Replay hest einj script) (Replay hest' einj' script') is is' = cc
+same_task words (Replay hest einj script) (Check hest' einj') is is' = cc
+same_task words (Replay hest einj script) (Decode block') is is' = cc
+same_task words (Check hest einj) (Replay hest' einj' script') is is' = cc
 same_task words (Check hest einj) (Check hest' einj') is is' = cc
 same_task words (Check hest einj) (Decode block') is is' = cc
-same_task words (Decode block) (Replay hest' script') is is' = cc
+same_task words (Decode block) (Replay hest' einj' script') is is' = cc
 same_task words (Decode block) (Check hest' einj') is is' = cc
 same_task words (Decode block) (Decode block') is is' = cc
 
@@ -90,24 +90,23 @@ table_task words before after end b (inr (refusal, cause, counted, put)) =
 pub bad_table : (words : List (List ℕ)) (before after : Outside) (end : RunEnd) → EndsBy words before after end → HasBadTable words before.files after.files → IsUnlessFault end.status 3
 bad_table words before after end ends b = table_task words before after end b (of_task words b.task before after end b.asked ends)
 
--- a table that is not served
-unserved_task : (words : List (List ℕ)) (before after : Outside) (end : RunEnd) (b : HasUnserved words before.files after.files) → EndsTask (Replay b.hest b.script) before after end → IsUnlessFault end.status 3
-unserved_task words before after end b (inl (done, is, none, put)) = absurd (unserved_not_done before.files b.hest b.script done b.table is)
-unserved_task words before after end b (inr (refusal, cause, counted, put)) =
-    unless_fault (refused_name (Replay b.hest b.script) refusal) before.out after.out refusal 3 end
-    (unserved_refused before.files after.files b.hest b.script refusal b.no_failed_load b.table cause) put
+-- tables of which there is no machine
+machine_task : (words : List (List ℕ)) (before after : Outside) (end : RunEnd) (b : HasBadMachine words before.files after.files) → EndsTask (Replay b.hest b.einj b.script) before after end → IsUnlessFault end.status 8
+machine_task words before after end b (inl (done, is, none, put)) = absurd (machine_not_done words before.files after.files b done is)
+machine_task words before after end b (inr (refusal, cause, counted, put)) =
+    unless_fault (refused_name (Replay b.hest b.einj b.script) refusal) before.out after.out refusal 8 end (machine_refused words before.files after.files b refusal cause) put
 
-pub not_built : (words : List (List ℕ)) (before after : Outside) (end : RunEnd) → EndsBy words before after end → HasUnserved words before.files after.files → IsUnlessFault end.status 3
-not_built words before after end ends b = unserved_task words before after end b (of_task words (Replay b.hest b.script) before after end b.asked ends)
+pub bad_machine : (words : List (List ℕ)) (before after : Outside) (end : RunEnd) → EndsBy words before after end → HasBadMachine words before.files after.files → IsUnlessFault end.status 8
+bad_machine words before after end ends b = machine_task words before after end b (of_task words (Replay b.hest b.einj b.script) before after end b.asked ends)
 
 -- a refused script
-script_task : (words : List (List ℕ)) (before after : Outside) (end : RunEnd) (b : HasBadScript words before.files after.files) → EndsTask (Replay b.hest b.script) before after end → IsUnlessFault end.status 4
-script_task words before after end b (inl (done, is, none, put)) = absurd (script_not_done words before.files after.files done b is)
+script_task : (words : List (List ℕ)) (before after : Outside) (end : RunEnd) (b : HasBadScript words before.files after.files) → EndsTask (Replay b.hest b.einj b.script) before after end → IsUnlessFault end.status 4
+script_task words before after end b (inl (done, is, none, put)) = absurd (script_not_done words before.files after.files b done is)
 script_task words before after end b (inr (refusal, cause, counted, put)) =
-    unless_fault (refused_name (Replay b.hest b.script) refusal) before.out after.out refusal 4 end (script_refused words before.files after.files refusal b cause) put
+    unless_fault (refused_name (Replay b.hest b.einj b.script) refusal) before.out after.out refusal 4 end (script_refused words before.files after.files b refusal cause) put
 
 pub bad_script : (words : List (List ℕ)) (before after : Outside) (end : RunEnd) → EndsBy words before after end → HasBadScript words before.files after.files → IsUnlessFault end.status 4
-bad_script words before after end ends b = script_task words before after end b (of_task words (Replay b.hest b.script) before after end b.asked ends)
+bad_script words before after end ends b = script_task words before after end b (of_task words (Replay b.hest b.einj b.script) before after end b.asked ends)
 
 -- a failed load is told by its refusal, unless memory ran out
 failed_status : (before after : FilesSeen) (refusal : Refusal) → (NoneFailed before after → ⊥) → CountsFailed before after refusal → (status_of refusal ≡ 5) ⊎ (status_of refusal ≡ 7)
@@ -131,8 +130,9 @@ refused_above : (refusal : Refusal) → status_of refusal < 2 → ⊥
 refused_above refusals.Usage less = absurd (omega (arith, less))
 refused_above (refusals.Hest error) less = absurd (omega (arith, less))
 refused_above (refusals.Einj error) less = absurd (omega (arith, less))
-refused_above refusals.NotBuilt less = absurd (omega (arith, less))
-refused_above (refusals.Script line) less = absurd (omega (arith, less))
+refused_above (refusals.Platform error) less = absurd (omega (arith, less))
+refused_above (refusals.Script line kind) less = absurd (omega (arith, less))
+refused_above (refusals.Full line) less = absurd (omega (arith, less))
 refused_above (refusals.Load file why) less = absurd (omega (arith, less))
 refused_above refusals.OutOfMemory less = absurd (omega (arith, less))
 
@@ -140,8 +140,9 @@ not_refused_at_6 : (refusal : Refusal) → status_of refusal ≡ 6 → ⊥
 not_refused_at_6 refusals.Usage six = absurd (omega (arith, six))
 not_refused_at_6 (refusals.Hest error) six = absurd (omega (arith, six))
 not_refused_at_6 (refusals.Einj error) six = absurd (omega (arith, six))
-not_refused_at_6 refusals.NotBuilt six = absurd (omega (arith, six))
-not_refused_at_6 (refusals.Script line) six = absurd (omega (arith, six))
+not_refused_at_6 (refusals.Platform error) six = absurd (omega (arith, six))
+not_refused_at_6 (refusals.Script line kind) six = absurd (omega (arith, six))
+not_refused_at_6 (refusals.Full line) six = absurd (omega (arith, six))
 not_refused_at_6 (refusals.Load file why) six = absurd (omega (arith, six))
 not_refused_at_6 refusals.OutOfMemory six = absurd (omega (arith, six))
 
@@ -198,8 +199,9 @@ refused_status : (refusal : Refusal) → IsTrue (is_status (status_of refusal))
 refused_status refusals.Usage = refl
 refused_status (refusals.Hest error) = refl
 refused_status (refusals.Einj error) = refl
-refused_status refusals.NotBuilt = refl
-refused_status (refusals.Script line) = refl
+refused_status (refusals.Platform error) = refl
+refused_status (refusals.Script line kind) = refl
+refused_status (refusals.Full line) = refl
 refused_status (refusals.Load file why) = refl
 refused_status refusals.OutOfMemory = refl
 

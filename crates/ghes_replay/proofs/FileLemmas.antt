@@ -1,19 +1,18 @@
 -- The work on one file: what is loaded is read, or it is refused.
-use Rattle.std.proofs.Common.{◌≡◌, ℕ, List, codes, Option, Some, None, Result, Ok, Err, IfOk, IfErr, arith}
+use Rattle.std.proofs.Common.{◌≡◌, ℕ, List, codes, Option, Some, None, Result, Ok, Err, IfOk, IfErr, inl, inr}
 use Rattle.apei_einj.specs.declared.entry.Entry.{Entry}
-use Rattle.apei_hest.specs.declared.source.Ghes.{Ghes}
 use Rattle.apei_hest.specs.declared.source.Source.{Source}
 use Rattle.ghes_outside.specs.Outside.{FilesSeen}
-use Rattle.ghes_plain_script.specs.declared.line.Line.{Line}
 use Rattle.ghes_replay.specs.declared.exit.InputFile.TheVariants as files
 use Rattle.ghes_replay.specs.declared.exit.Refusal.{Refusal}
 use Rattle.ghes_replay.specs.declared.exit.Refusal.TheVariants as refusals
-use Rattle.ghes_replay.specs.Loading.{HasHest, HasTable, HasInjection, HasLines, LoadCause, HestCause, SourceCause, EinjCause, ScriptCause, LoadsFile, LoadsHest, LoadsSource, LoadsInjection, LoadsScript, ReadsHest, ReadsEinj, ReadsLines}
+use Rattle.ghes_replay.specs.Loading.{HasHest, HasTables, HasInjection, HasScript, LoadCause, HestCause, EinjCause, ScriptCause, LoadsFile, LoadsHest, LoadsInjection, LoadsTables, LoadsScript, ReadsHest, ReadsEinj, ReadsScript}
 use Rattle.ghes_replay.specs.Seen.{IsLoaded, NoneFailed}
-use Rattle.ghes_replay.specs.Served.{served}
-use Rattle.ghes_replay.specs.Task.{IsEinjName}
-use Rattle.ghes_replay.proofs.LoadLemmas.{no_loads, none_in, loaded_earlier, cause_earlier}
-use Rattle.ghes_replay.proofs.WorkLemmas.{goes_on, stops}
+use Rattle.ghes_replay.specs.Task.{IsEinjName, IsTableName}
+use Rattle.ghes_script.specs.Setup.{Setup}
+use Rattle.ghes_script.specs.declared.line.Line.{Line}
+use Rattle.ghes_replay.proofs.LoadLemmas.{no_loads, none_in, loads_weaker, loaded_earlier, cause_earlier}
+use Rattle.ghes_replay.proofs.WorkLemmas.{goes_on, stops, then_works}
 
 abbrev IsName : List ℕ → List ℕ → Type 0
 IsName name other = other ≡ name
@@ -43,26 +42,6 @@ pub hest_refused : (before after : FilesSeen) (name : List ℕ) (refusal : Refus
 hest_refused before after name refusal loaded =
     stops (IsName name) (IsName name) before after (IsLoaded before files.Hest name) (LoadCause before after files.Hest name)
     (HasHest before name) (HestCause before after name) refusal (λ other is. is) (hest_of_load before after name refusal) loaded
-
--- the table of a replay: its source is served, or none is, or it is refused
-pub source_found : (before after : FilesSeen) (name : List ℕ) (found : List Source) (ghes : Ghes) → LoadsHest before after name (Ok found) → served found ≡ Some ghes → LoadsSource before after name (Ok ghes)
-source_found before after name found ghes loaded is =
-    goes_on (IsName name) (IsName name) before after (HasHest before name) (HestCause before after name)
-    (HasTable before name) (SourceCause before after name) found (Ok ghes) (λ other is. is) loaded (found, loaded.found, is) tt
-
-pub source_not_built : (before after : FilesSeen) (name : List ℕ) (found : List Source) → LoadsHest before after name (Ok found) → served found ≡ None → LoadsSource before after name (Err refusals.NotBuilt)
-source_not_built before after name found loaded none =
-    goes_on (IsName name) (IsName name) before after (HasHest before name) (HestCause before after name)
-    (HasTable before name) (SourceCause before after name) found (Err refusals.NotBuilt) (λ other is. is) loaded tt (found, loaded.found, none)
-
-source_of_hest : (before after : FilesSeen) (name : List ℕ) (refusal : Refusal) → HestCause before after name refusal → SourceCause before after name refusal
-source_of_hest before after name refusals.NotBuilt cause = absurd cause
-source_of_hest before after name other cause = cause
-
-pub source_refused : (before after : FilesSeen) (name : List ℕ) (refusal : Refusal) → LoadsHest before after name (Err refusal) → LoadsSource before after name (Err refusal)
-source_refused before after name refusal loaded =
-    stops (IsName name) (IsName name) before after (HasHest before name) (HestCause before after name)
-    (HasTable before name) (SourceCause before after name) refusal (λ other is. is) (source_of_hest before after name refusal) loaded
 
 -- the word of an injection table: none is named, or the file is read, or it is refused
 abbrev IsNamed : List ℕ → List ℕ → Type 0
@@ -107,38 +86,38 @@ named_refused before after name refusal named loaded =
     (HasInjection before name) (NamedCause before after name) refusal (λ other is. (is, named)) (λ cause. (named, einj_of_load before after name refusal cause)) loaded
 
 -- a script that is read
-lines_found : (before : FilesSeen) (name bytes : List ℕ) (ghes : Ghes) (result : Result (List Line) Refusal) → IsLoaded before files.Script name bytes → ReadsLines ghes.id bytes result → IfOk result (HasLines before name ghes)
-lines_found before name bytes ghes (Ok lines) loaded (spelled, few) = ((bytes, loaded, spelled), omega (arith, few, loaded.within))
-lines_found before name bytes ghes (Err refusal) loaded reads = tt
+lines_found : (before : FilesSeen) (name bytes : List ℕ) (setup : Setup) (result : Result (List Line) Refusal) → IsLoaded before files.Script name bytes → ReadsScript setup bytes result → IfOk result (HasScript before name setup)
+lines_found before name bytes setup (Ok lines) loaded spelled = (bytes, loaded, spelled)
+lines_found before name bytes setup (Err refusal) loaded reads = tt
 
-lines_cause : (before after : FilesSeen) (name bytes : List ℕ) (ghes : Ghes) (result : Result (List Line) Refusal) → IsLoaded before files.Script name bytes → ReadsLines ghes.id bytes result → IfErr result (ScriptCause before after name ghes)
-lines_cause before after name bytes ghes (Ok lines) loaded reads = tt
-lines_cause before after name bytes ghes (Err (refusals.Script line)) loaded reads = (bytes, loaded, reads)
-lines_cause before after name bytes ghes (Err refusals.OutOfMemory) loaded reads = tt
-lines_cause before after name bytes ghes (Err other) loaded reads = absurd reads
+lines_cause : (before after : FilesSeen) (name bytes : List ℕ) (setup : Setup) (result : Result (List Line) Refusal) → IsLoaded before files.Script name bytes → ReadsScript setup bytes result → IfErr result (ScriptCause before after name setup)
+lines_cause before after name bytes setup (Ok lines) loaded reads = tt
+lines_cause before after name bytes setup (Err (refusals.Script line kind)) loaded reads = (bytes, loaded, reads)
+lines_cause before after name bytes setup (Err refusals.OutOfMemory) loaded reads = tt
+lines_cause before after name bytes setup (Err other) loaded reads = absurd reads
 
-pub lines_read : (before after : FilesSeen) (name bytes : List ℕ) (ghes : Ghes) (result : Result (List Line) Refusal) → LoadsFile before after files.Script name (Ok bytes) → ReadsLines ghes.id bytes result → LoadsScript before after name ghes result
-lines_read before after name bytes ghes result loaded reads =
+pub lines_read : (before after : FilesSeen) (name bytes : List ℕ) (setup : Setup) (result : Result (List Line) Refusal) → LoadsFile before after files.Script name (Ok bytes) → ReadsScript setup bytes result → LoadsScript before after name setup result
+lines_read before after name bytes setup result loaded reads =
     goes_on (IsName name) (IsName name) before after (IsLoaded before files.Script name) (LoadCause before after files.Script name)
-    (HasLines before name ghes) (ScriptCause before after name ghes) bytes result (λ other is. is) loaded
-    (lines_found before name bytes ghes result loaded.found reads) (lines_cause before after name bytes ghes result loaded.found reads)
+    (HasScript before name setup) (ScriptCause before after name setup) bytes result (λ other is. is) loaded
+    (lines_found before name bytes setup result loaded.found reads) (lines_cause before after name bytes setup result loaded.found reads)
 
-script_of_load : (before after : FilesSeen) (name : List ℕ) (ghes : Ghes) (refusal : Refusal) → LoadCause before after files.Script name refusal → ScriptCause before after name ghes refusal
-script_of_load before after name ghes (refusals.Script line) cause = absurd cause
-script_of_load before after name ghes other cause = cause
+script_of_load : (before after : FilesSeen) (name : List ℕ) (setup : Setup) (refusal : Refusal) → LoadCause before after files.Script name refusal → ScriptCause before after name setup refusal
+script_of_load before after name setup (refusals.Script line kind) cause = absurd cause
+script_of_load before after name setup other cause = cause
 
-pub lines_refused : (before after : FilesSeen) (name : List ℕ) (ghes : Ghes) (refusal : Refusal) → LoadsFile before after files.Script name (Err refusal) → LoadsScript before after name ghes (Err refusal)
-lines_refused before after name ghes refusal loaded =
+pub lines_refused : (before after : FilesSeen) (name : List ℕ) (setup : Setup) (refusal : Refusal) → LoadsFile before after files.Script name (Err refusal) → LoadsScript before after name setup (Err refusal)
+lines_refused before after name setup refusal loaded =
     stops (IsName name) (IsName name) before after (IsLoaded before files.Script name) (LoadCause before after files.Script name)
-    (HasLines before name ghes) (ScriptCause before after name ghes) refusal (λ other is. is) (script_of_load before after name ghes refusal) loaded
+    (HasScript before name setup) (ScriptCause before after name setup) refusal (λ other is. is) (script_of_load before after name setup refusal) loaded
 
 -- what is told of a later file, told of the whole
-pub lines_earlier : (before middle : FilesSeen) (name : List ℕ) (ghes : Ghes) (lines : List Line) → middle.contents name ≡ before.contents name → HasLines middle name ghes lines → HasLines before name ghes lines
-lines_earlier before middle name ghes lines same ((bytes, loaded, spelled), few) = ((bytes, loaded_earlier before middle files.Script name bytes same loaded, spelled), few)
+pub script_had_earlier : (before middle : FilesSeen) (name : List ℕ) (setup : Setup) (lines : List Line) → middle.contents name ≡ before.contents name → HasScript middle name setup lines → HasScript before name setup lines
+script_had_earlier before middle name setup lines same (bytes, loaded, spelled) = (bytes, loaded_earlier before middle files.Script name bytes same loaded, spelled)
 
-pub script_earlier : (before middle after : FilesSeen) (name : List ℕ) (ghes : Ghes) (refusal : Refusal) → middle.contents name ≡ before.contents name → NoneFailed before middle → ScriptCause middle after name ghes refusal → ScriptCause before after name ghes refusal
-script_earlier before middle after name ghes (refusals.Script line) same none (bytes, loaded, refused) = (bytes, loaded_earlier before middle files.Script name bytes same loaded, refused)
-script_earlier before middle after name ghes other same none cause = cause_earlier before middle after files.Script name other same none cause
+pub script_earlier : (before middle after : FilesSeen) (name : List ℕ) (setup : Setup) (refusal : Refusal) → middle.contents name ≡ before.contents name → NoneFailed before middle → ScriptCause middle after name setup refusal → ScriptCause before after name setup refusal
+script_earlier before middle after name setup (refusals.Script line kind) same none (bytes, loaded, refused) = (bytes, loaded_earlier before middle files.Script name bytes same loaded, refused)
+script_earlier before middle after name setup other same none cause = cause_earlier before middle after files.Script name other same none cause
 
 pub injection_earlier : (before middle : FilesSeen) (name : List ℕ) (injection : Option (List Entry)) → middle.contents name ≡ before.contents name → HasInjection middle name injection → HasInjection before name injection
 injection_earlier before middle name None same none = none
@@ -147,3 +126,48 @@ injection_earlier before middle name (Some entries) same (named, (bytes, loaded,
 pub einj_earlier : (before middle after : FilesSeen) (name : List ℕ) (refusal : Refusal) → middle.contents name ≡ before.contents name → NoneFailed before middle → EinjCause middle after name refusal → EinjCause before after name refusal
 einj_earlier before middle after name (refusals.Einj error) same none (bytes, loaded, refused) = (bytes, loaded_earlier before middle files.Einj name bytes same loaded, refused)
 einj_earlier before middle after name other same none cause = cause_earlier before middle after files.Einj name other same none cause
+
+named_earlier : (before middle after : FilesSeen) (einj : List ℕ) (refusal : Refusal) → middle.contents einj ≡ before.contents einj → NoneFailed before middle → NamedCause middle after einj refusal → NamedCause before after einj refusal
+named_earlier before middle after einj refusal same none (named, cause) = (named, einj_earlier before middle after einj refusal same none cause)
+
+-- both tables are loaded
+pub tables_found : (before middle after : FilesSeen) (hest einj : List ℕ) (found : List Source) (injection : Option (List Entry)) → LoadsHest before middle hest (Ok found) → LoadsInjection middle after einj (Ok injection) → LoadsTables before after hest einj (Ok (found, injection))
+tables_found before middle after hest einj found injection table loaded =
+    let both = then_works (IsName hest) (IsNamed einj) (IsTableName hest einj) before middle after
+    (HasHest before hest) (HestCause before middle hest) (HasInjection middle einj) (HasInjection before einj)
+    (NamedCause middle after einj) (NamedCause before after einj) found (Ok injection)
+    (λ name is. inl is) (λ name is. inr is) (λ some has. injection_earlier before middle einj some (table.loads.contents einj) has)
+    (λ why cause. named_earlier before middle after einj why (table.loads.contents einj) table.unfailed cause) table loaded in
+    record {
+      loads = both.loads;
+      unfailed = both.unfailed;
+      counted = tt;
+      found = record { table = table.found; named = both.found };
+      refused = tt;
+    }
+
+-- the injection table is refused behind the table
+pub second_refused : (before middle after : FilesSeen) (hest einj : List ℕ) (found : List Source) (refusal : Refusal) → LoadsHest before middle hest (Ok found) → LoadsInjection middle after einj (Err refusal) → LoadsTables before after hest einj (Err refusal)
+second_refused before middle after hest einj found refusal table loaded =
+    let both = then_works (IsName hest) (IsNamed einj) (IsTableName hest einj) before middle after
+    (HasHest before hest) (HestCause before middle hest) (HasInjection middle einj) (HasInjection before einj)
+    (NamedCause middle after einj) (NamedCause before after einj) found (Err refusal)
+    (λ name is. inl is) (λ name is. inr is) (λ some has. injection_earlier before middle einj some (table.loads.contents einj) has)
+    (λ why cause. named_earlier before middle after einj why (table.loads.contents einj) table.unfailed cause) table loaded in
+    record {
+      loads = both.loads;
+      unfailed = tt;
+      counted = both.counted;
+      found = tt;
+      refused = inr (found, table.found, both.refused.0, both.refused.1);
+    }
+
+-- the table is refused
+pub first_refused : (before after : FilesSeen) (hest einj : List ℕ) (refusal : Refusal) → LoadsHest before after hest (Err refusal) → LoadsTables before after hest einj (Err refusal)
+first_refused before after hest einj refusal table = record {
+  loads = loads_weaker (IsName hest) (IsTableName hest einj) before after (λ name is. inl is) table.loads;
+  unfailed = tt;
+  counted = table.counted;
+  found = tt;
+  refused = inl table.refused;
+}

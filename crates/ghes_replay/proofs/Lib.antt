@@ -3,10 +3,9 @@ pub mod DoneLemmas
 pub mod EndLemmas
 pub mod FileLemmas
 pub mod LoadLemmas
+pub mod PlayLemmas
 pub mod ProgramLemmas
 pub mod PutLemmas
-pub mod ServedLemmas
-pub mod SoundLemmas
 pub mod TaskLemmas
 pub mod ToldLemmas
 pub mod WordLemmas

@@ -14,7 +14,7 @@ counts_later before middle after (refusals.Load file loads.Failed) none counted 
 counts_later before middle after refusals.OutOfMemory none counted = tt
 counts_later before middle after other none counted = none_both before middle after none counted
 
-counts_none : (before after : FilesSeen) (refusal : Refusal) → NoneFailed before after → CountsFailed before after refusal
+pub counts_none : (before after : FilesSeen) (refusal : Refusal) → NoneFailed before after → CountsFailed before after refusal
 counts_none before after (refusals.Load file loads.Failed) none = tt
 counts_none before after refusals.OutOfMemory none = tt
 counts_none before after other none = none

@@ -2,23 +2,21 @@
 use Rattle.std.specs.Prelude.{◌≡◌, ◌⊎◌, ℕ, Bool, false, if◌then◌else◌, List, map, Option, Some, None, Result, IfOk, IfErr}
 use Rattle.std.specs.List.{list_any}
 use Rattle.apei_einj.specs.declared.entry.Entry.{Entry}
-use Rattle.apei_hest.specs.declared.source.Ghes.{Ghes}
+use Rattle.apei_hest.specs.Refusal.{enabled}
 use Rattle.apei_hest.specs.declared.source.Source.{Source}
 use Rattle.ghes_outside.specs.Outside.{FilesSeen}
-use Rattle.ghes_plain_script.specs.declared.line.Line.{Line}
 use Rattle.ghes_replay.specs.declared.exit.InputFile.TheVariants as files
 use Rattle.ghes_replay.specs.declared.exit.Refusal.{Refusal}
 use Rattle.ghes_replay.specs.declared.exit.Refusal.TheVariants as refusals
 use Rattle.ghes_replay.specs.Check.{check_text}
 use Rattle.ghes_replay.specs.Decode.{Decodes}
-use Rattle.ghes_ledger.specs.History.{Executed}
 use Rattle.ghes_ledger.specs.Kept.{Kept}
-use Rattle.ghes_ledger.specs.Lawful.{IsLawful}
-use Rattle.ghes_replay.specs.Planned.{plan_of, text_of}
-use Rattle.ghes_serial.specs.Lines.{act_of}
-use Rattle.ghes_replay.specs.Loading.{HasHest, HasTable, HasScript, HasInjection, LoadCause, HestCause, SourceCause, EinjCause, ScriptCause, Works}
+use Rattle.ghes_replay.specs.Planned.{HasMachine, IsReplayOf, NoMachine, NoReplay, text_of}
+use Rattle.ghes_replay.specs.Loading.{HasHest, HasTables, HasScript, HasInjection, LoadCause, TablesCause, ScriptCause, Works, script_setup}
 use Rattle.ghes_replay.specs.Seen.{IsLoaded}
-use Rattle.ghes_replay.specs.Task.{Task, Replay, Check, Decode, IsEinjName, IsFileOf}
+use Rattle.ghes_replay.specs.Task.{Task, Replay, Check, Decode, IsFileOf}
+use Rattle.ghes_script.specs.declared.line.Line.{Line}
+use Rattle.ghes_setup.specs.declared.rig.Rig.{Rig}
 
 -- what a task gives: the ledger, which a replay alone has, and the whole text
 pub record Output : Type 0 where
@@ -28,15 +26,20 @@ pub record Output : Type 0 where
 abbrev pub output : Option Kept → List ℕ → Output
 output ledger text = record { ledger = ledger; text = text }
 
--- The two files were replayed: the ledger is lawful for the lines of the script, and the text is the text of that ledger.
-pub record IsReplayed (seen : FilesSeen) (hest script : List ℕ) (ledger : Kept) (text : List ℕ) : Type 0 where
-  pub ghes : Ghes
-  pub table : HasTable seen hest ghes
+-- A script was replayed on tables: there is a machine of them, the script is one of their sources, and its lines were replayed on that
+-- machine, to this ledger and its text.
+pub record IsReplayedOn (seen : FilesSeen) (script : List ℕ) (found : List Source) (injection : Option (List Entry)) (ledger : Kept) (text : List ℕ) : Type 0 where
+  pub machine : HasMachine (enabled found) injection
   pub lines : List Line
-  pub spelled : HasScript seen script ghes lines
-  pub history : List Executed
-  pub lawful : IsLawful (plan_of ghes) (map act_of lines) ledger history
-  pub told : text ≡ text_of (plan_of ghes) history ledger
+  pub spelled : HasScript seen script (script_setup found injection) lines
+  pub replay : IsReplayOf (enabled found) injection lines ledger text
+
+-- The files were replayed: the tables are accepted, and the script was replayed on them.
+pub record IsReplayed (seen : FilesSeen) (hest einj script : List ℕ) (ledger : Kept) (text : List ℕ) : Type 0 where
+  pub found : List Source
+  pub injection : Option (List Entry)
+  pub tables : HasTables seen hest einj found injection
+  pub behind : IsReplayedOn seen script found injection ledger text
 
 -- The tables were listed: they are accepted, and the text is the listing of the sources and of the entries.
 pub record IsChecked (seen : FilesSeen) (hest einj text : List ℕ) : Type 0 where
@@ -54,39 +57,61 @@ pub record IsDecoded (seen : FilesSeen) (block text : List ℕ) : Type 0 where
 
 -- the task was done, with this ledger and this text
 abbrev pub IsDone : FilesSeen → Task → Output → Type 0
-IsDone before (Replay hest script) done = (ledger : Kept) × (done.ledger ≡ Some ledger) × IsReplayed before hest script ledger done.text
+IsDone before (Replay hest einj script) done = (ledger : Kept) × (done.ledger ≡ Some ledger) × IsReplayed before hest einj script ledger done.text
 IsDone before (Check hest einj) done = (done.ledger ≡ None) × IsChecked before hest einj done.text
 IsDone before (Decode block) done = (done.ledger ≡ None) × IsDecoded before block done.text
 
--- why a script is refused behind a table: that one has a source that is served, and the script is refused for it
-abbrev pub SecondScriptCause : FilesSeen → FilesSeen → List ℕ → List ℕ → Refusal → Type 0
-SecondScriptCause before after hest script refusal = (ghes : Ghes) × HasTable before hest ghes × ScriptCause before after script ghes refusal
+-- why lines of a script are not replayed
+abbrev pub LinesCause : FilesSeen → List ℕ → List Source → Option (List Entry) → Refusal → Type 0
+LinesCause before script found injection refusal =
+    (lines : List Line) × HasScript before script (script_setup found injection) lines × NoReplay (enabled found) injection lines refusal
 
--- why an injection table is refused behind a table: that one is accepted, and a file is named
-abbrev pub SecondEinjCause : FilesSeen → FilesSeen → List ℕ → List ℕ → Refusal → Type 0
-SecondEinjCause before after hest einj refusal =
-    (found : List Source) × HasHest before hest found × IsEinjName einj × EinjCause before after einj refusal
+-- why a replay is refused behind its tables: there is no machine of them, the script is refused, or its lines are not replayed
+abbrev pub MachineCause : FilesSeen → FilesSeen → List ℕ → List Source → Option (List Entry) → Refusal → Type 0
+MachineCause before after script found injection refusal =
+    NoMachine (enabled found) injection refusal
+    ⊎ (HasMachine (enabled found) injection
+    × (ScriptCause before after script (script_setup found injection) refusal ⊎ LinesCause before script found injection refusal))
 
--- why a task is refused: for its first file, or its first file is accepted, and for the second
+-- the tables of a replay are accepted, and it is refused behind them
+abbrev pub ReplayCause : FilesSeen → FilesSeen → List ℕ → List ℕ → List ℕ → Refusal → Type 0
+ReplayCause before after hest einj script refusal =
+    (found : List Source) × (injection : Option (List Entry)) × HasTables before hest einj found injection
+    × MachineCause before after script found injection refusal
+
+-- why a task is refused: for its tables, or behind them, or for its block
 abbrev pub TaskCause : FilesSeen → FilesSeen → Task → Refusal → Type 0
-TaskCause before after (Replay hest script) refusal = SourceCause before after hest refusal ⊎ SecondScriptCause before after hest script refusal
-TaskCause before after (Check hest einj) refusal = HestCause before after hest refusal ⊎ SecondEinjCause before after hest einj refusal
+TaskCause before after (Replay hest einj script) refusal = TablesCause before after hest einj refusal ⊎ ReplayCause before after hest einj script refusal
+TaskCause before after (Check hest einj) refusal = TablesCause before after hest einj refusal
 TaskCause before after (Decode block) refusal = LoadCause before after files.Block block refusal
 
 -- what a task answers
 abbrev pub Does : FilesSeen → FilesSeen → Task → Result Output Refusal → Type 0
 Does before after task result = Works (IsFileOf task) before after (IsDone before task) (TaskCause before after task) result
 
--- what a replay of lines gives: a lawful ledger, and its text
-abbrev pub TellsLines : Ghes → List Line → Output → Type 0
-TellsLines ghes lines done =
-    (ledger : Kept) × (done.ledger ≡ Some ledger)
-    × (history : List Executed) × IsLawful (plan_of ghes) (map act_of lines) ledger history × (done.text ≡ text_of (plan_of ghes) history ledger)
+-- what a replay on tables gives
+abbrev pub TellsOn : FilesSeen → List ℕ → List Source → Option (List Entry) → Output → Type 0
+TellsOn before script found injection done =
+    (ledger : Kept) × (done.ledger ≡ Some ledger) × IsReplayedOn before script found injection ledger done.text
 
--- what a replay of lines answers; only memory can be wanting
-pub record RunsLines (ghes : Ghes) (lines : List Line) (result : Result Output Refusal) : Type 0 where
-  pub found : IfOk result (TellsLines ghes lines)
-  pub refused : IfErr result (λ refusal. refusal ≡ refusals.OutOfMemory)
+-- what a replay on tables answers
+abbrev pub DoesOn : FilesSeen → FilesSeen → List ℕ → List Source → Option (List Entry) → Result Output Refusal → Type 0
+DoesOn before after script found injection result =
+    Works (λ other. other ≡ script) before after (TellsOn before script found injection) (MachineCause before after script found injection) result
+
+-- what a replay of lines gives: a lawful ledger, and its text
+abbrev pub TellsLines : List Source → Option (List Entry) → List Line → Output → Type 0
+TellsLines found injection lines done =
+    (ledger : Kept) × (done.ledger ≡ Some ledger) × IsReplayOf (enabled found) injection lines ledger done.text
+
+-- the ledger of a run of lines on a machine that is left so, and its text
+abbrev pub IsToldOf : Rig → List Line → Kept → Output → Type 0
+IsToldOf rig lines ledger done = (done.ledger ≡ Some ledger) × (done.text ≡ text_of rig.machine lines rig.ports.items ledger)
+
+-- what a replay of lines answers
+pub record RunsLines (found : List Source) (injection : Option (List Entry)) (lines : List Line) (result : Result Output Refusal) : Type 0 where
+  pub told : IfOk result (TellsLines found injection lines)
+  pub refused : IfErr result (NoReplay (enabled found) injection lines)
 
 -- what a text without a ledger answers; only memory can be wanting
 pub record Prints (IsText : List ℕ → Type 0) (result : Result Output Refusal) : Type 0 where

@@ -7,7 +7,6 @@ pub mod Program
 pub mod Refusal
 pub mod Run
 pub mod Seen
-pub mod Served
 pub mod Task
 pub mod Told
 pub mod Views

@@ -1,34 +1,27 @@
 -- What the work on one file answers, and why it is refused.
-use Rattle.std.specs.Prelude.{◌≡◌, ◌≤◌, ◌<◌, ◌^◌, ℕ, List, [], ◌∷◌, codes, length, Option, Some, None, Result, Ok, Err, IfOk, IfErr, OnOk}
+use Rattle.std.specs.Prelude.{◌≡◌, ◌⊎◌, ℕ, List, [], ◌∷◌, codes, length, Option, Some, None, is_some, Result, Ok, Err, IfOk, IfErr, OnOk}
 use Rattle.apei_einj.specs.Table.{einj_entries, einj_refusal}
 use Rattle.apei_einj.specs.declared.entry.Entry.{Entry}
 use Rattle.apei_hest.specs.Hest.{Judges}
-use Rattle.apei_hest.specs.declared.source.Ghes.{Ghes}
+use Rattle.apei_hest.specs.Refusal.{enabled}
 use Rattle.apei_hest.specs.declared.source.Source.{Source}
 use Rattle.ghes_outside.specs.Outside.{FilesSeen, Rose, IsLonger}
 use Rattle.ghes_outside.specs.declared.files.LoadError.{LoadError}
 use Rattle.ghes_outside.specs.declared.files.LoadError.TheVariants as loads
-use Rattle.ghes_plain_script.specs.declared.line.Line.{Line}
-use Rattle.ghes_plain_script.specs.Script.{IsScript, IsRefusedAt}
 use Rattle.ghes_replay.specs.declared.exit.InputFile.{InputFile}
 use Rattle.ghes_replay.specs.declared.exit.InputFile.TheVariants as files
 use Rattle.ghes_replay.specs.declared.exit.Refusal.{Refusal}
 use Rattle.ghes_replay.specs.declared.exit.Refusal.TheVariants as refusals
 use Rattle.ghes_replay.specs.Seen.{limit_for, AddsNames, Loads, NoneFailed, IsLoaded}
-use Rattle.ghes_replay.specs.Served.{served}
-use Rattle.ghes_replay.specs.Task.{IsEinjName}
+use Rattle.ghes_replay.specs.Task.{IsEinjName, IsTableName}
+use Rattle.ghes_script.specs.Script.{IsScript, IsRefusedAt}
+use Rattle.ghes_script.specs.Setup.{Setup}
+use Rattle.ghes_script.specs.declared.line.Line.{Line}
+use Rattle.ghes_setup.specs.Machine.{setup_for}
 
 -- a file has an accepted table with these sources
 abbrev pub HasHest : FilesSeen → List ℕ → List Source → Type 0
 HasHest seen name found = (bytes : List ℕ) × IsLoaded seen files.Hest name bytes × Judges bytes (Ok found)
-
--- a file has an accepted table of which a replay serves this source
-abbrev pub HasTable : FilesSeen → List ℕ → Ghes → Type 0
-HasTable seen name ghes = (found : List Source) × HasHest seen name found × (served found ≡ Some ghes)
-
--- a file has a script of these lines for the source
-abbrev pub HasScript : FilesSeen → List ℕ → Ghes → List Line → Type 0
-HasScript seen name ghes lines = (bytes : List ℕ) × IsLoaded seen files.Script name bytes × IsScript ghes.id bytes lines
 
 -- bytes are an accepted injection table with these entries
 abbrev pub AcceptsEinj : List ℕ → List Entry → Type 0
@@ -43,6 +36,19 @@ abbrev pub HasInjection : FilesSeen → List ℕ → Option (List Entry) → Typ
 HasInjection seen name None = name ≡ codes "-"
 HasInjection seen name (Some entries) = IsEinjName name × HasEinj seen name entries
 
+-- The files of these names have accepted tables with these sources and entries.
+pub record HasTables (seen : FilesSeen) (hest einj : List ℕ) (found : List Source) (injection : Option (List Entry)) : Type 0 where
+  pub table : HasHest seen hest found
+  pub named : HasInjection seen einj injection
+
+-- for what a script is read behind these tables
+abbrev pub script_setup : List Source → Option (List Entry) → Setup
+script_setup found injection = setup_for (enabled found) (is_some injection)
+
+-- a file has a script of these lines
+abbrev pub HasScript : FilesSeen → List ℕ → Setup → List Line → Type 0
+HasScript seen name setup lines = (bytes : List ℕ) × IsLoaded seen files.Script name bytes × IsScript setup bytes lines
+
 -- Why a file is not loaded. Want of memory has no cause.
 abbrev pub LoadCause : FilesSeen → FilesSeen → InputFile → List ℕ → Refusal → Type 0
 LoadCause before after file name (refusals.Load which loads.Failed) =
@@ -56,22 +62,26 @@ abbrev pub HestCause : FilesSeen → FilesSeen → List ℕ → Refusal → Type
 HestCause before after name (refusals.Hest error) = (bytes : List ℕ) × IsLoaded before files.Hest name bytes × Judges bytes (Err error)
 HestCause before after name other = LoadCause before after files.Hest name other
 
--- why a table is refused for a replay: it is refused, or it is accepted and none of its sources is served so far
-abbrev pub SourceCause : FilesSeen → FilesSeen → List ℕ → Refusal → Type 0
-SourceCause before after name refusals.NotBuilt = (found : List Source) × HasHest before name found × (served found ≡ None)
-SourceCause before after name other = HestCause before after name other
-
 -- why an injection table is refused
 abbrev pub EinjCause : FilesSeen → FilesSeen → List ℕ → Refusal → Type 0
 EinjCause before after name (refusals.Einj error) =
     (bytes : List ℕ) × IsLoaded before files.Einj name bytes × (einj_refusal bytes ≡ Some error)
 EinjCause before after name other = LoadCause before after files.Einj name other
 
--- why a script for a source is refused
-abbrev pub ScriptCause : FilesSeen → FilesSeen → List ℕ → Ghes → Refusal → Type 0
-ScriptCause before after name ghes (refusals.Script line) =
-    (bytes : List ℕ) × IsLoaded before files.Script name bytes × IsRefusedAt ghes.id bytes line
-ScriptCause before after name ghes other = LoadCause before after files.Script name other
+-- why an injection table is refused behind a table: that one is accepted, and a file is named
+abbrev pub SecondEinjCause : FilesSeen → FilesSeen → List ℕ → List ℕ → Refusal → Type 0
+SecondEinjCause before after hest einj refusal =
+    (found : List Source) × HasHest before hest found × IsEinjName einj × EinjCause before after einj refusal
+
+-- why one of two tables is refused
+abbrev pub TablesCause : FilesSeen → FilesSeen → List ℕ → List ℕ → Refusal → Type 0
+TablesCause before after hest einj refusal = HestCause before after hest refusal ⊎ SecondEinjCause before after hest einj refusal
+
+-- why a script is refused
+abbrev pub ScriptCause : FilesSeen → FilesSeen → List ℕ → Setup → Refusal → Type 0
+ScriptCause before after name setup (refusals.Script line kind) =
+    (bytes : List ℕ) × IsLoaded before files.Script name bytes × IsRefusedAt setup bytes (record { number = line; kind = kind })
+ScriptCause before after name setup other = LoadCause before after files.Script name other
 
 -- No load failed, unless the refusal says so, or is for want of memory.
 abbrev pub CountsFailed : FilesSeen → FilesSeen → Refusal → Type 0
@@ -96,23 +106,20 @@ LoadsFile before after file name result =
 abbrev pub LoadsHest : FilesSeen → FilesSeen → List ℕ → Result (List Source) Refusal → Type 0
 LoadsHest before after name result = Works (λ other. other ≡ name) before after (HasHest before name) (HestCause before after name) result
 
--- what loading the table of a replay answers, by the source that is served
-abbrev pub LoadsSource : FilesSeen → FilesSeen → List ℕ → Result Ghes Refusal → Type 0
-LoadsSource before after name result = Works (λ other. other ≡ name) before after (HasTable before name) (SourceCause before after name) result
-
 -- what a word answers that may name an injection table: a file is read, and refused, only where it does
 abbrev pub LoadsInjection : FilesSeen → FilesSeen → List ℕ → Result (Option (List Entry)) Refusal → Type 0
 LoadsInjection before after name result =
     Works (λ other. (other ≡ name) × IsEinjName name) before after (HasInjection before name) (λ refusal. IsEinjName name × EinjCause before after name refusal) result
 
--- lines that a script has, and how many they are at most
-abbrev pub HasLines : FilesSeen → List ℕ → Ghes → List Line → Type 0
-HasLines seen name ghes lines = HasScript seen name ghes lines × (length lines < 2 ^ 32)
+-- what loading two tables answers
+abbrev pub LoadsTables : FilesSeen → FilesSeen → List ℕ → List ℕ → Result (List Source × Option (List Entry)) Refusal → Type 0
+LoadsTables before after hest einj result =
+    Works (IsTableName hest einj) before after (λ tables. HasTables before hest einj tables.0 tables.1) (TablesCause before after hest einj) result
 
--- what loading a script answers: its lines are of the first source, and fewer than the script's bytes
-abbrev pub LoadsScript : FilesSeen → FilesSeen → List ℕ → Ghes → Result (List Line) Refusal → Type 0
-LoadsScript before after name ghes result =
-    Works (λ other. other ≡ name) before after (HasLines before name ghes) (ScriptCause before after name ghes) result
+-- what loading a script answers
+abbrev pub LoadsScript : FilesSeen → FilesSeen → List ℕ → Setup → Result (List Line) Refusal → Type 0
+LoadsScript before after name setup result =
+    Works (λ other. other ≡ name) before after (HasScript before name setup) (ScriptCause before after name setup) result
 
 -- what reading a table answers
 abbrev pub ReadsHest : List ℕ → Result (List Source) Refusal → Type 0
@@ -129,12 +136,12 @@ ReadsEinj bytes (Err (refusals.Einj error)) = einj_refusal bytes ≡ Some error
 ReadsEinj bytes (Err refusals.OutOfMemory) = Unit {0}
 ReadsEinj bytes (Err other) = ⊥
 
--- what reading a script answers: its lines ask for the first source alone, and there are at most as many as bytes
-abbrev pub ReadsLines : ℕ → List ℕ → Result (List Line) Refusal → Type 0
-ReadsLines id bytes (Ok lines) = IsScript id bytes lines × (length lines ≤ length bytes)
-ReadsLines id bytes (Err (refusals.Script line)) = IsRefusedAt id bytes line
-ReadsLines id bytes (Err refusals.OutOfMemory) = Unit {0}
-ReadsLines id bytes (Err other) = ⊥
+-- what reading a script answers
+abbrev pub ReadsScript : Setup → List ℕ → Result (List Line) Refusal → Type 0
+ReadsScript setup bytes (Ok lines) = IsScript setup bytes lines
+ReadsScript setup bytes (Err (refusals.Script line kind)) = IsRefusedAt setup bytes (record { number = line; kind = kind })
+ReadsScript setup bytes (Err refusals.OutOfMemory) = Unit {0}
+ReadsScript setup bytes (Err other) = ⊥
 
 -- the refusal for a file that was not loaded
 abbrev pub load_refusal : InputFile → LoadError → Refusal

@@ -4,8 +4,9 @@ use Rattle.std.specs.Fmt.{decimal}
 use Rattle.apei_einj.specs.Text.{einj_error_text}
 use Rattle.apei_hest.specs.Text.{hest_error_text}
 use Rattle.ghes_outside.specs.Text.{load_error_text}
-use Rattle.ghes_plain_script.specs.Text.{kind_text}
-use Rattle.ghes_plain_script.specs.declared.error.BadLine.{BadLine}
+use Rattle.fw_map.specs.Text.{fw_error_text}
+use Rattle.ghes_script.specs.Text.{kind_text}
+use Rattle.ghes_script.specs.declared.error.ScriptKind.{ScriptKind}
 use Rattle.ghes_replay.specs.declared.exit.Refusal.{Refusal}
 use Rattle.ghes_replay.specs.declared.exit.Refusal.TheVariants as refusals
 use Rattle.ghes_replay.specs.Task.{Task, file_of}
@@ -15,8 +16,9 @@ abbrev pub status_of : Refusal → ℕ
 status_of refusals.Usage = 2
 status_of (refusals.Hest error) = 3
 status_of (refusals.Einj error) = 3
-status_of refusals.NotBuilt = 3
-status_of (refusals.Script line) = 4
+status_of (refusals.Platform error) = 8
+status_of (refusals.Script line kind) = 4
+status_of (refusals.Full line) = 8
 status_of (refusals.Load file why) = 5
 status_of refusals.OutOfMemory = 7
 
@@ -37,25 +39,30 @@ unfoldable pub einj_line : List ℕ → List ℕ
 einj_line reason = codes "ghes: einj: " ++ reason ++ codes "\n"
 
 -- the line for a refused script, by its first bad line
-unfoldable pub script_line : BadLine → List ℕ
-script_line at = codes "ghes: script: line " ++ decimal at.line ++ codes ": " ++ kind_text at.kind ++ codes "\n"
+unfoldable pub script_line : ℕ → ScriptKind → List ℕ
+script_line line kind = codes "ghes: script: line " ++ decimal line ++ codes ": " ++ kind_text kind ++ codes "\n"
+
+-- the line for a machine that is refused
+unfoldable pub platform_line : List ℕ → List ℕ
+platform_line reason = codes "ghes: platform: " ++ reason ++ codes "\n"
 
 -- the line for want of memory
 abbrev pub memory_line : List ℕ
 memory_line = codes "ghes: out of memory\n"
 
--- the line for a table whose sources are not served so far
-abbrev pub not_built_line : List ℕ
-not_built_line = codes "ghes: hest: 9 not built\n"
+-- the line for a block too many
+abbrev pub full_line : List ℕ
+full_line = codes "ghes: platform: 2 room\n"
 
 -- the line of a refusal, by the name of the file that it is about
 abbrev pub line_of : List ℕ → Refusal → List ℕ
 line_of name refusals.Usage = usage_line
 line_of name (refusals.Load file why) = load_line name (load_error_text why)
 line_of name (refusals.Hest error) = hest_line (hest_error_text error)
-line_of name refusals.NotBuilt = not_built_line
 line_of name (refusals.Einj error) = einj_line (einj_error_text error)
-line_of name (refusals.Script line) = script_line line
+line_of name (refusals.Platform error) = platform_line (fw_error_text error)
+line_of name (refusals.Script line kind) = script_line line kind
+line_of name (refusals.Full line) = full_line
 line_of name refusals.OutOfMemory = memory_line
 
 -- the name of the file in the line of a refusal, which only a file that was not loaded has

@@ -66,7 +66,7 @@ EndsBy words before after end =
 
 -- the statuses of a run
 abbrev pub is_status : ℕ → Bool
-is_status status = (status == 0) || (status == 1) || (status == 2) || (status == 3) || (status == 4) || (status == 5) || (status == 6) || (status == 7)
+is_status status = (status == 0) || (status == 1) || (status == 2) || (status == 3) || (status == 4) || (status == 5) || (status == 6) || (status == 7) || (status == 8)
 
 -- the statuses of a listing
 abbrev pub is_check_status : ℕ → Bool

@@ -1,15 +1,9 @@
 -- Results without where their lists lie in memory.
 use Rattle.std.specs.Prelude.{ℕ, List, Vec, Result, Ok, Err}
 use Rattle.std.specs.declared.alloc.Global.{Global}
-use Rattle.ghes_plain_script.specs.declared.line.Line.{Line}
 use Rattle.ghes_replay.specs.declared.done.Done.{Done}
 use Rattle.ghes_replay.specs.declared.exit.Refusal.{Refusal}
 use Rattle.ghes_replay.specs.Done.{Output, output}
-
--- the lines of a vector, or the refusal
-abbrev pub lines_of : Result (Vec Line Global) Refusal → Result (List Line) Refusal
-lines_of (Ok lines) = Ok lines.items
-lines_of (Err refusal) = Err refusal
 
 -- the bytes of a vector, or the refusal
 abbrev pub bytes_of : Result (Vec ℕ Global) Refusal → Result (List ℕ) Refusal

@@ -9,7 +9,7 @@ ghost use Rattle.ghes_replay.specs.Check.{form_text, ghes_line, skipped_line, so
 
 use crate::Refusal;
 use crate::done::Done;
-use crate::loading::{load_hest, load_injection};
+use crate::loading::load_tables;
 use apei_einj::Einj;
 use apei_hest::{Ghes, Source};
 use ghes_outside::Files;
@@ -117,12 +117,8 @@ pub(crate) fn check<F: Files>(
     ensures { Does (F.seen files.old)
         (F.seen files.new) (Check hest.now einj.now) (done_of result) }
 {
-    let found = match load_hest(alloc, files, hest) {
-        Ok(found) => found,
-        Err(refusal) => return Err(refusal),
-    };
-    match load_injection(alloc, files, einj) {
-        Ok(injection) => list_both(alloc, found.sources(), &injection),
+    match load_tables(alloc, files, hest, einj) {
+        Ok((found, injection)) => list_both(alloc, found.sources(), &injection),
         Err(refusal) => Err(refusal),
     }
 }

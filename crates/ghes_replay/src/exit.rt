@@ -5,8 +5,9 @@ ghost use Rattle.ghes_replay.specs.Refusal.{status_of, line_of};
 
 use apei_einj::EinjError;
 use apei_hest::HestError;
+use fw_map::FwError;
 use ghes_outside::LoadError;
-use ghes_plain_script::BadLine;
+use ghes_script::ScriptKind;
 use std::alloc::{AllocError, Global};
 
 /// The files that a run reads.
@@ -27,12 +28,14 @@ pub enum Refusal {
     Load(InputFile, LoadError),
     /// The table is refused. Status 3.
     Hest(HestError),
-    /// The table is accepted, and a replay does not serve its sources so far. Status 3.
-    NotBuilt,
     /// The injection table is refused, behind an accepted table. Status 3.
     Einj(EinjError),
-    /// This is the script's first bad line. Status 4.
-    Script(BadLine),
+    /// There is no machine of the tables, behind both. Status 8.
+    Platform(FwError),
+    /// This is the script's first bad line, and its kind. Status 4.
+    Script { line: u32, kind: ScriptKind },
+    /// The line of this number makes one block more than a machine may have. Status 8.
+    Full { line: u32 },
     /// Status 7.
     OutOfMemory,
 }
@@ -57,10 +60,11 @@ impl Refusal {
     {
         match self {
             Refusal::Usage => 2,
-            Refusal::Hest(_) | Refusal::NotBuilt | Refusal::Einj(_) => 3,
-            Refusal::Script(_) => 4,
+            Refusal::Hest(_) | Refusal::Einj(_) => 3,
+            Refusal::Script { .. } => 4,
             Refusal::Load(_, _) => 5,
             Refusal::OutOfMemory => 7,
+            Refusal::Platform(_) | Refusal::Full { .. } => 8,
         }
     }
 
@@ -75,11 +79,12 @@ impl Refusal {
             ),
             Refusal::Load(_, why) => format!(in alloc; "ghes: read {name}: {why}\n"),
             Refusal::Hest(error) => format!(in alloc; "ghes: hest: {error}\n"),
-            Refusal::NotBuilt => String::from_str(alloc, "ghes: hest: 9 not built\n"),
             Refusal::Einj(error) => format!(in alloc; "ghes: einj: {error}\n"),
-            Refusal::Script(BadLine { line, kind }) => {
+            Refusal::Platform(error) => format!(in alloc; "ghes: platform: {error}\n"),
+            Refusal::Script { line, kind } => {
                 format!(in alloc; "ghes: script: line {line}: {kind}\n")
             }
+            Refusal::Full { .. } => String::from_str(alloc, "ghes: platform: 2 room\n"),
             Refusal::OutOfMemory => String::from_str(alloc, "ghes: out of memory\n"),
         }
     }

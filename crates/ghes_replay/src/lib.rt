@@ -7,11 +7,11 @@ mod decode;
 mod done;
 mod exit;
 mod loading;
+mod playing;
 mod program;
 mod putting;
 mod replay;
 mod run;
-mod served;
 mod task;
 #[cfg(test)]
 mod tests;

@@ -1,15 +1,18 @@
 //! Loads files, and reads what they hold.
-ghost use Rattle.std.specs.Prelude.{◌≡◌, ◌<◌, ◌^◌, ◌-◌, length};
-ghost use Rattle.ghes_replay.specs.Loading.{LoadsFile, LoadsHest, LoadsInjection, LoadsScript, ReadsHest, ReadsEinj, ReadsLines, load_refusal};
+ghost use Rattle.std.specs.Prelude.{◌≡◌, ◌<◌, ◌^◌, length};
+ghost use Rattle.apei_hest.specs.Refusal.{enabled};
+ghost use Rattle.ghes_replay.specs.Loading.{LoadsFile, LoadsHest, LoadsInjection, LoadsTables, LoadsScript, ReadsHest, ReadsEinj, ReadsScript, load_refusal};
 ghost use Rattle.ghes_replay.specs.Seen.{limit_for};
-ghost use Rattle.ghes_replay.specs.Views.{lines_of, bytes_of};
+ghost use Rattle.ghes_replay.specs.Views.{bytes_of};
+ghost use Rattle.ghes_setup.specs.Machine.{setup_for};
 
 use crate::{InputFile, Refusal};
 use apei_einj::{Einj, EinjError};
-use apei_hest::{Ghes, Hest, HestError};
+use apei_hest::{Hest, HestError};
 use cper_block::LARGEST_BLOCK;
 use ghes_outside::{Files, LoadError};
-use ghes_plain_script::{Line, ScriptError, read_script};
+use ghes_script::{Script, ScriptError};
+use ghes_setup::read_script;
 use std::alloc::Global;
 
 // How many bytes a file may have.
@@ -45,14 +48,14 @@ fn read_einj(alloc: Global, bytes: &[u8]) -> Result<Option<Einj>, Refusal>
     }
 }
 
-// The lines of the script that the bytes are.
-fn read_lines(alloc: Global, id: u16, bytes: &[u8]) -> Result<Vec<Line>, Refusal>
-    requires { length bytes.now < 2 ^ 32 - 1 }
-    ensures { ReadsLines id bytes.now (lines_of result) }
+// The script that the bytes are, of the sources of a table, with an injection table or without one.
+fn read_lines(alloc: Global, hest: &Hest, injection: bool, bytes: &[u8]) -> Result<Script, Refusal>
+    requires { length bytes.now < 2 ^ 32 }
+    ensures { ReadsScript (setup_for (enabled hest.now) injection) bytes.now result }
 {
-    match read_script(alloc, id, bytes) {
-        Ok(lines) => Ok(lines),
-        Err(ScriptError::Line(line)) => Err(Refusal::Script(line)),
+    match read_script(alloc, hest, injection, bytes) {
+        Ok(script) => Ok(script),
+        Err(ScriptError::Line { line, kind }) => Err(Refusal::Script { line, kind }),
         Err(ScriptError::OutOfMemory) => Err(Refusal::OutOfMemory),
     }
 }
@@ -110,18 +113,37 @@ pub(crate) fn load_injection<F: Files>(
     }
 }
 
-/// Loads the script and reads its lines, where the one source has this id.
+/// Loads a table and reads its sources, and then loads the injection table that a word names, and reads its entries.
+pub(crate) fn load_tables<F: Files>(
+    alloc: Global,
+    files: &mut F,
+    hest: &str,
+    einj: &str,
+) -> Result<(Hest, Option<Einj>), Refusal>
+    ensures { LoadsTables (F.seen files.old) (F.seen files.new) hest.now einj.now result }
+{
+    let found = match load_hest(alloc, files, hest) {
+        Ok(found) => found,
+        Err(refusal) => return Err(refusal),
+    };
+    match load_injection(alloc, files, einj) {
+        Ok(injection) => Ok((found, injection)),
+        Err(refusal) => Err(refusal),
+    }
+}
+
+/// Loads the script and reads it, for the sources of a table, with an injection table or without one.
 pub(crate) fn load_script<F: Files>(
     alloc: Global,
     files: &mut F,
     name: &str,
-    ghes: &Ghes,
-) -> Result<Vec<Line>, Refusal>
-    ensures { LoadsScript (F.seen files.old)
-        (F.seen files.new) name.now ghes.now (lines_of result) }
+    hest: &Hest,
+    injection: bool,
+) -> Result<Script, Refusal>
+    ensures { LoadsScript (F.seen files.old) (F.seen files.new) name.now (setup_for (enabled hest.now) injection) result }
 {
     match load_file(alloc, files, InputFile::Script, name) {
-        Ok(bytes) => read_lines(alloc, ghes.id, &bytes),
+        Ok(bytes) => read_lines(alloc, hest, injection, &bytes),
         Err(refusal) => Err(refusal),
     }
 }

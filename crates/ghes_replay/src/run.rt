@@ -6,7 +6,7 @@ ghost use Rattle.ghes_replay.specs.Done.{Does, done_status};
 ghost use Rattle.ghes_replay.specs.Run.{AskNothing, EndsBy, EndsTask, IsUnlessFault, PutsText, RefusedBy, bare_end, is_check_status, is_decode_status, is_status};
 ghost use Rattle.ghes_replay.specs.Seen.{Loads, NoneFailed, outside};
 ghost use Rattle.ghes_replay.specs.Task.{IsFileOf, IsFileWord, task_seen};
-ghost use Rattle.ghes_replay.specs.Told.{IsAccepted, HasBadTable, HasUnserved, HasBadScript};
+ghost use Rattle.ghes_replay.specs.Told.{IsAccepted, HasBadTable, HasBadMachine, HasBadScript};
 ghost use Rattle.ghes_replay.specs.Views.{done_of};
 
 use crate::check::check;
@@ -34,7 +34,7 @@ fn answer<F: Files>(alloc: Global, task: Task<'_>, files: &mut F) -> Result<Done
     ensures { Does (F.seen files.old) (F.seen files.new) (task_seen task.entry) (done_of result) }
 {
     match task {
-        Task::Replay { hest, script } => replay(alloc, files, hest, script),
+        Task::Replay { hest, einj, script } => replay(alloc, files, hest, einj, script),
         Task::Check { hest, einj } => check(alloc, files, hest, einj),
         Task::Decode { block } => decode(alloc, files, block),
     }
@@ -77,10 +77,10 @@ fn run<F: Files, K: Sink>(alloc: Global, words: &[String], files: &mut F, out: &
 
 /// Runs the program: does what the words after the program's name ask for, with these files and this output.
 ///
-/// So far the words are `replay HEST - SCRIPT`, `check HEST EINJ` or `decode BLOCK`, where HEST, EINJ, SCRIPT and BLOCK
+/// So far the words are `replay HEST EINJ SCRIPT`, `check HEST EINJ` or `decode BLOCK`, where HEST, EINJ, SCRIPT and BLOCK
 /// name files of at most 1 MiB, 1 MiB, 16 MiB and 65,536 bytes, and `-` for EINJ stands for no injection table. The order
-/// of the work is: the words, the table, then the injection table or the script; the first refusal ends the run. All text
-/// is made first, and then put in pieces of at most 4,096 bytes.
+/// of the work is: the words, the table, the injection table, the machine of both, the script, its lines; the first refusal
+/// ends the run. All text is made first, and then put in pieces of at most 4,096 bytes.
 pub fn ghes_run<F: Files, K: Sink>(
     alloc: Global,
     words: &[String],
@@ -104,15 +104,15 @@ pub fn ghes_run<F: Files, K: Sink>(
     // Where a load failed, the run is refused for it, unless the output fails or memory runs out.
     ensures failed { (NoneFailed (F.seen files.old) (F.seen files.new) → ⊥)
         → IsUnlessFault result.status 5 }
-    // Words that ask for nothing, a refused table or injection table, a table that is not served so far and a refused
+    // Words that ask for nothing, a refused table or injection table, tables of which there is no machine and a refused
     // script get their status, unless the output fails or memory runs out.
     ensures bad_words { AskNothing (map string_bytes words.now) → IsUnlessFault result.status 2 }
     ensures bad_table { HasBadTable (map string_bytes words.now)
         (F.seen files.old) (F.seen files.new)
         → IsUnlessFault result.status 3 }
-    ensures not_built { HasUnserved (map string_bytes words.now)
+    ensures bad_machine { HasBadMachine (map string_bytes words.now)
         (F.seen files.old) (F.seen files.new)
-        → IsUnlessFault result.status 3 }
+        → IsUnlessFault result.status 8 }
     ensures bad_script { HasBadScript (map string_bytes words.now)
         (F.seen files.old) (F.seen files.new)
         → IsUnlessFault result.status 4 }

@@ -9,12 +9,21 @@ use crate::{InputFile, Refusal};
 /// What the words of the command line ask for, with the names of the files.
 #[derive(Clone, Copy)]
 pub(crate) enum Task<'a> {
-    /// To replay a script on a table.
-    Replay { hest: &'a str, script: &'a str },
+    /// To replay a script on a table, and on an injection table unless its word is `-`.
+    Replay {
+        hest: &'a str,
+        einj: &'a str,
+        script: &'a str,
+    },
     /// To list a table, and an injection table unless its word is `-`.
-    Check { hest: &'a str, einj: &'a str },
+    Check {
+        hest: &'a str,
+        einj: &'a str,
+    },
     /// To print a block.
-    Decode { block: &'a str },
+    Decode {
+        block: &'a str,
+    },
 }
 
 impl<'a> Task<'a> {
@@ -23,10 +32,11 @@ impl<'a> Task<'a> {
         ensures { result.now ≡ file_of (task_seen self.entry) kind }
     {
         match self {
-            Task::Replay { hest, script } => match kind {
+            Task::Replay { hest, einj, script } => match kind {
                 InputFile::Hest => hest,
+                InputFile::Einj => einj,
                 InputFile::Script => script,
-                InputFile::Einj | InputFile::Block => "",
+                InputFile::Block => "",
             },
             Task::Check { hest, einj } => match kind {
                 InputFile::Hest => hest,
@@ -51,19 +61,19 @@ impl<'a> Task<'a> {
     }
 }
 
-// The names of the table and of the script in the words `replay HEST - SCRIPT`.
-fn replay_names(words: &[String]) -> Option<(&str, &str)>
+// The words for the tables and the script in the words `replay HEST EINJ SCRIPT`.
+fn replay_names(words: &[String]) -> Option<(&str, &str, &str)>
     ensures { MatchOption result
-        ((hest script : List ℕ) → IsTask (map string_bytes words.now) (AskedReplay hest script) → ⊥)
-        (λ names. IsTask (map string_bytes words.now) (AskedReplay names.0.now names.1.now)) }
+        ((hest einj script : List ℕ) → IsTask (map string_bytes words.now) (AskedReplay hest einj script) → ⊥)
+        (λ names. IsTask (map string_bytes words.now) (AskedReplay names.0.now names.1.now names.2.now)) }
 {
     let [command, hest, einj, script] = words else {
         return None;
     };
-    if command.as_str() != "replay" || einj.as_str() != "-" {
+    if command.as_str() != "replay" {
         return None;
     }
-    Some((hest.as_str(), script.as_str()))
+    Some((hest.as_str(), einj.as_str(), script.as_str()))
 }
 
 // The words for the tables in the words `check HEST EINJ`.
@@ -102,8 +112,8 @@ pub(crate) fn task_of(words: &[String]) -> Option<Task<'_>>
         ((task : Asked) → IsTask (map string_bytes words.now) task → ⊥)
         (λ task. IsTask (map string_bytes words.now) (task_seen task)) }
 {
-    if let Some((hest, script)) = replay_names(words) {
-        return Some(Task::Replay { hest, script });
+    if let Some((hest, einj, script)) = replay_names(words) {
+        return Some(Task::Replay { hest, einj, script });
     }
     if let Some((hest, einj)) = check_names(words) {
         return Some(Task::Check { hest, einj });

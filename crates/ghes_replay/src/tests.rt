@@ -5,8 +5,9 @@ use std::alloc::Global;
 use std::test::Fail;
 
 // Files by name, as hexadecimal digits: the tables "one source" and "injection" of docs/FORMATS.md, the first with another
-// checksum, and with its source disabled, a block with three raw bytes, and a file of one byte.
-const BYTES: [(&str, &str); 6] = [
+// checksum, and with its source disabled, the table "two sources", and with two registers that overlap, a block with three raw
+// bytes, and a file of one byte.
+const BYTES: [(&str, &str); 8] = [
     (
         "hest",
         "484553546800000001404748455352545245504c4159303101000000474845530100000001000000\
@@ -40,6 +41,24 @@ const BYTES: [(&str, &str); 6] = [
         08020000002000034000007e000000000000000000000000ffffffff00000000",
     ),
     (
+        "two",
+        "48455354c4000000012d4748455352545245504c4159303101000000474845530100000002000000\
+        09000100ffff0001010000000100000000000000004000040000007f00000000\
+        041c000000000000000000000000000000000000000000000000000000100000\
+        0a000200ffff000101000000010000000000000000400004080000007f00000000\
+        041c000000000000000000000000000000000000000000000000000000100000\
+        002000030010007f00000000feffffff000000000100000000000000",
+    ),
+    (
+        "lap",
+        "48455354c400000001314748455352545245504c4159303101000000474845530100000002000000\
+        09000100ffff0001010000000100000000000000004000040000007f00000000\
+        041c000000000000000000000000000000000000000000000000000000100000\
+        0a000200ffff000101000000010000000000000000400004040000007f00000000\
+        041c000000000000000000000000000000000000000000000000000000100000\
+        002000030010007f00000000feffffff000000000100000000000000",
+    ),
+    (
         "block",
         "0200000018000000030000000000000001000000ffffffff010203",
     ),
@@ -47,7 +66,7 @@ const BYTES: [(&str, &str); 6] = [
 ];
 
 // Scripts by name.
-const SCRIPTS: [(&str, &str); 3] = [
+const SCRIPTS: [(&str, &str); 5] = [
     (
         "fates",
         "raise 1 0200000000000000000000000000000002000000\nraise 1 0200000000000000000000000100000002000000\n\
@@ -59,6 +78,15 @@ const SCRIPTS: [(&str, &str); 3] = [
         nmi 1\nnmi 1\nnmi 1\n",
     ),
     ("bad", "work\nnmi 1\nworks\nnmi 7\n"),
+    (
+        "pool",
+        "slots 1\nackcell 2 0xabcd00f0\nraise 1 0200000000000000000000000000000002000000\n\
+        raise 2 0200000000000000000000000000000003000000\nnmi 1\nnmi 2\nwork\nnmi 2\npeek 2\n",
+    ),
+    (
+        "inject",
+        "busy 2\ninject 0x8 memory 0x12345678 0xfffffffffffff000\nnmi 1\n",
+    ),
 ];
 
 const FATES: &str =
@@ -72,6 +100,20 @@ const FATAL: &str =
     fatal source 1 block 2\n  severity fatal\nend of panic\nsummary\n\
     source 1: raised 2, acknowledged 2, delivered 0, duplicate 0, dropped 0, panic 2\n\
     reports 0, repeats 0, no slot 0, fault 0\n";
+
+const POOL: &str =
+    "nmi 1: queued 1\nnmi 2: no slot\nreport source 1 block 1\n  severity corrected\nnmi 2: queued 1\n\
+    cell 2: 0xabcd00f1\nreport source 2 block 1\n  severity none\nsummary\n\
+    source 1: raised 1, acknowledged 1, delivered 1, duplicate 0, dropped 0, panic 0\n\
+    source 2: raised 1, acknowledged 1, delivered 1, duplicate 0, dropped 0, panic 0\n\
+    reports 2, repeats 0, no slot 1, fault 0\n";
+
+const INJECTED: &str =
+    "inject 0x00000008: source 1 block 1\nnmi 1: queued 1\nreport source 1 block 1\n  severity corrected\n\
+    \x20 entry 0 memory severity corrected\n    physical address 0x0000000012345678\n\
+    \x20   mask 0xfffffffffffff000\n    type 0x02\nsummary\n\
+    source 1: raised 1, acknowledged 1, delivered 1, duplicate 0, dropped 0, panic 0\n\
+    reports 1, repeats 0, no slot 0, fault 0\n";
 
 const LISTED: &str = "hest: 1 sources\n1 at 40: ghes enabled, notification 4, block length 4096\n";
 
@@ -117,10 +159,32 @@ type Case = (
     &'static [&'static str],
 );
 
-const CASES: [Case; 18] = [
+const CASES: [Case; 22] = [
     // The load and the put behind those that a run makes would fail.
     (&["replay", "hest", "-", "fates"], &[3], &[2], 0, &[FATES]),
     (&["replay", "hest", "-", "fatal"], &[], &[], 1, &[FATAL]),
+    (
+        &["replay", "hest", "einj", "fates"],
+        &[4],
+        &[2],
+        0,
+        &[FATES],
+    ),
+    (
+        &["replay", "hest", "einj", "inject"],
+        &[],
+        &[],
+        0,
+        &[INJECTED],
+    ),
+    (&["replay", "two", "-", "pool"], &[], &[], 0, &[POOL]),
+    (
+        &["replay", "lap", "-", "none"],
+        &[],
+        &[],
+        8,
+        &["ghes: platform: 1 overlap of source 1 and source 2 at memory 0x000000007f000004\n"],
+    ),
     (
         &["check", "hest", "-"],
         &[2],
@@ -144,7 +208,7 @@ const CASES: [Case; 18] = [
     ),
     (&["decode", "-"], &[], &[], 0, &["malformed 1 too short\n"]),
     (&[], &[], &[], 2, &[USAGE]),
-    (&["replay", "hest", "einj", "fates"], &[], &[], 2, &[USAGE]),
+    (&["replay", "hest", "einj"], &[], &[], 2, &[USAGE]),
     (
         &["replay", "sum", "-", "bad"],
         &[],
@@ -156,8 +220,8 @@ const CASES: [Case; 18] = [
         &["replay", "off", "-", "bad"],
         &[],
         &[],
-        3,
-        &["ghes: hest: 9 not built\n"],
+        4,
+        &["ghes: script: line 2: 9 source\n"],
     ),
     (
         &["check", "hest", "hest"],

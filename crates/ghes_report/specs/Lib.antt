@@ -8,7 +8,6 @@ pub mod Left
 pub mod Lines
 pub mod Panic
 pub mod Prints
-pub mod Replay
 pub mod Report
 pub mod Script
 pub mod Section

@@ -1,6 +1,5 @@
--- The lines of a replay, as a function of the ids of the sources and the ledger (own choice).
+-- The lines of calls and of taken blocks, as functions of the ids of the sources and the reports (own choice).
 use Rattle.std.specs.Prelude.{ℕ, ◌-◌, List, [], ◌∷◌, ◌++◌, take, drop, slice_get, codes, Option, Some, None}
-use Rattle.std.specs.List.{flat_map}
 use Rattle.std.specs.Fmt.{decimal}
 use Rattle.cper_block.specs.Text.{malformed_text}
 use Rattle.ghes_call.specs.declared.call.AckState.{AckState}
@@ -8,13 +7,11 @@ use Rattle.ghes_call.specs.declared.call.AckState.TheVariants.{Failed}
 use Rattle.ghes_call.specs.declared.call.Call.{Call}
 use Rattle.ghes_call.specs.declared.call.Outcome.{Outcome}
 use Rattle.ghes_call.specs.declared.call.Outcome.TheVariants.{Nothing, Queued, Malformed, Duplicate, Fatal, NoSlot, Fault, Stopped}
-use Rattle.ghes_ledger.specs.declared.ledger.Mark.{Mark}
 use Rattle.ghes_ledger.specs.declared.ledger.Report.{Report}
 use Rattle.ghes_ledger.specs.declared.ledger.Reported.{Reported}
 use Rattle.ghes_ledger.specs.declared.ledger.Reported.TheVariants.{New, Repeat}
 use Rattle.ghes_ledger.specs.declared.ledger.Taken.{Taken}
 use Rattle.ghes_ledger.specs.declared.ledger.Taken.TheVariants.{Delivered, Dropped}
-use Rattle.ghes_ledger.specs.Kept.{Kept}
 use Rattle.ghes_report.specs.declared.lines.Told.{Told}
 use Rattle.ghes_report.specs.Report.{report_text, drop_text}
 
@@ -85,17 +82,3 @@ taken_text ids reports (Dropped source seq bytes reason) = drop_text (id_at ids 
 -- what stands in a list from one count to another
 abbrev pub between : {A : Type 0} → ℕ → ℕ → List A → List A
 between from to xs = take (to - from) (drop from xs)
-
--- the lines of a script's line, from the counts before it to its mark: its calls, then the blocks that it took
-abbrev pub line_text : List ℕ → Kept → ℕ → ℕ → Mark → List ℕ
-line_text ids kept calls taken mark =
-    flat_map (call_text ids kept.reports) (between calls mark.calls kept.calls)
-    ++ flat_map (taken_text ids kept.reports) (between taken mark.taken kept.taken)
-
-abbrev pub lines_from : List ℕ → Kept → ℕ → ℕ → List Mark → List ℕ
-lines_from ids kept calls taken [] = []
-lines_from ids kept calls taken (mark ∷ marks) = line_text ids kept calls taken mark ++ lines_from ids kept mark.calls mark.taken marks
-
--- The lines of a replay: those of each line of its script, and of its end.
-abbrev pub lines_text : List ℕ → Kept → List ℕ
-lines_text ids kept = lines_from ids kept 0 0 kept.marks

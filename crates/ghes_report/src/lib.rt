@@ -28,7 +28,7 @@ pub use laws::{
     a_lawful_ledger_may_be_printed, a_summary_tells_its_ledger,
     bytes_behind_a_block_are_not_printed,
 };
-pub use replay::{lines_text, panic_text, replay_text, summary_text};
+pub use replay::{panic_text, summary_text};
 pub use report::{block_text, drop_text, malformed_lines, report_text};
 pub use script::{script_text, told_text};
 pub use severities::severities_text;

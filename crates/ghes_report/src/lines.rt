@@ -1,14 +1,14 @@
-//! The lines of a replay, made of its ledger behind the run.
+//! The lines of calls and of taken blocks.
 ghost use Rattle.std.specs.Prelude.{◌≡◌, ◌++◌, OnOk};
 ghost use Rattle.std.specs.Fmt.{decimal};
 ghost use Rattle.std.specs.List.{flat_map, AllByRecursion};
-ghost use Rattle.ghes_report.specs.Lines.{id_at, told_in, told_of, told_text, outcome_text, ack_text, call_line, call_text, repeat_line, taken_text, between, line_text, lines_text};
+ghost use Rattle.ghes_report.specs.Lines.{id_at, told_in, told_of, told_text, outcome_text, ack_text, call_line, call_text, repeat_line, taken_text, between};
 ghost use Rattle.ghes_report.specs.Sound.{IsSoundTaken};
 
 use crate::report::{dropped, reason_text, report, source_and_block};
 use crate::text::Text;
 use ghes_call::{AckState, Call, Outcome};
-use ghes_ledger::{Ledger, Mark, Report, Reported, Taken};
+use ghes_ledger::{Report, Reported, Taken};
 use std::alloc::AllocError;
 
 /// The block that a report told.
@@ -238,40 +238,4 @@ pub(crate) fn between<T>(xs: &[T], from: u64, to: u64) -> &[T]
     let (_before, rest) = xs.split_at((from as usize).min(xs.len()));
     let count = to.saturating_sub(from) as usize;
     rest.split_at(count.min(rest.len())).0
-}
-
-// Adds the lines of a script's line, from the counts before it to its mark.
-#[tactic(auto, using(crate::proofs::Joining::grouped))]
-fn line_text(
-    text: &mut Text,
-    ids: &[u16],
-    ledger: &Ledger,
-    calls: u64,
-    taken: u64,
-    mark: Mark,
-) -> Result<(), AllocError>
-    requires { AllByRecursion IsSoundTaken ledger.now.taken }
-    ensures ok { OnOk result (text.new.added ≡ text.old.added ++ line_text ids.now ledger.now calls taken mark) }
-    ensures front { text.new.front ≡ text.old.front }
-{
-    let reports = ledger.reports();
-    let made = between(ledger.calls(), calls, mark.calls);
-    calls_text(text, ids, reports, made)?;
-    let ended = between(ledger.taken(), taken, mark.taken);
-    all_taken_text(text, ids, reports, ended)
-}
-
-/// Adds the lines of a replay.
-pub(crate) fn add_lines(text: &mut Text, ids: &[u16], ledger: &Ledger) -> Result<(), AllocError>
-    requires { AllByRecursion IsSoundTaken ledger.now.taken }
-    ensures ok { OnOk result (text.new.added ≡ text.old.added ++ lines_text ids.now ledger.now) }
-    ensures front { text.new.front ≡ text.old.front }
-{
-    let (mut calls, mut taken) = (0, 0);
-    for mark in ledger.marks() {
-        line_text(text, ids, ledger, calls, taken, *mark)?;
-        calls = mark.calls;
-        taken = mark.taken;
-    }
-    Ok(())
 }

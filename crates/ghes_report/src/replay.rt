@@ -1,37 +1,15 @@
-//! The text of a replay, made of its ledger behind the run.
-ghost use Rattle.std.specs.Prelude.{◌≡◌, ◌++◌, OnOk, OnErr, IfOk};
+//! The panic report and the summary of a replay, made of its ledger behind the run.
+ghost use Rattle.std.specs.Prelude.{◌≡◌, ◌++◌, OnOk, OnErr};
 ghost use Rattle.std.specs.List.{AllByRecursion};
-ghost use Rattle.ghes_report.specs.Lines.{lines_text};
 ghost use Rattle.ghes_report.specs.Panic.{panic_text};
-ghost use Rattle.ghes_report.specs.Replay.{replay_text};
-ghost use Rattle.ghes_report.specs.Sound.{IsSound, IsSoundTaken, IsSoundEntry};
+ghost use Rattle.ghes_report.specs.Sound.{IsSoundEntry};
 ghost use Rattle.ghes_report.specs.Summary.{summary_text};
 
-use crate::lines::add_lines;
 use crate::panic::add_panic;
 use crate::summary::add_summary;
 use crate::text::Text;
 use ghes_ledger::{Ledger, Summary};
 use std::alloc::{AllocError, Global};
-
-/// Appends the lines of a replay: of each line of its script in order, and of the end, the calls and then the blocks that it took.
-///
-/// A source is named by its id, the element of `ids` at its position. What is printed without a reason is a well-formed block.
-/// After an error `into` is as it was. Source of the words: own choice.
-pub fn lines_text(
-    alloc: Global,
-    into: &mut Vec<u8>,
-    ledger: &Ledger,
-    ids: &[u16],
-) -> Result<(), AllocError>
-    requires { AllByRecursion IsSoundTaken ledger.now.taken }
-    ensures ok { OnOk result (into.new.items ≡ into.old.items ++ lines_text ids.now ledger.now) }
-    ensures err { OnErr result (into.new.items ≡ into.old.items) }
-{
-    let mut text = Text::open(alloc, into);
-    let done = add_lines(&mut text, ids, ledger);
-    text.close(into, done)
-}
 
 /// Appends the panic report of a ledger: nothing, where its panic list is empty.
 ///
@@ -71,25 +49,4 @@ pub fn summary_text(
     let mut text = Text::open(alloc, into);
     let done = add_summary(&mut text, summary, ids, raised, acknowledged);
     text.close(into, done)
-}
-
-/// The text of a replay: its lines, the panic report, and the summary. It is a function of the ledger, and of the sources' ids and
-/// counts, and is made behind the run.
-#[tactic(auto, unfolding(crate::specs::Replay::replay_text), using(crate::proofs::Joining::grouped))]
-pub fn replay_text(
-    alloc: Global,
-    ledger: &Ledger,
-    ids: &[u16],
-    raised: &[u32],
-    acknowledged: &[u32],
-) -> Result<Vec<u8>, AllocError>
-    requires { IsSound ledger.now }
-    ensures { IfOk result (λ text. text.items ≡ replay_text ids.now raised.now acknowledged.now ledger.now) }
-{
-    let summary = ledger.summary(alloc, ids.len())?;
-    let mut text = Vec::new(alloc);
-    lines_text(alloc, &mut text, ledger, ids)?;
-    panic_text(alloc, &mut text, ledger, ids)?;
-    summary_text(alloc, &mut text, &summary, ids, raised, acknowledged)?;
-    Ok(text)
 }

@@ -1,6 +1,6 @@
 -- What follows from how a run ends.
 use Rattle.ghes_replay.specs.Seen.{outside}
-use Rattle.ghes_replay.proofs.EndLemmas.{bad_script, bad_table, bad_words, failed_load, is_complete, is_done, not_built, put_failed, statuses}
+use Rattle.ghes_replay.proofs.EndLemmas.{bad_script, bad_table, bad_words, failed_load, is_complete, is_done, bad_machine, put_failed, statuses}
 use Rattle.ghes_replay.proofs.run.ghes_run.Goals as goal
 
 pub returns-clause-done : goal.returns-clause-done
@@ -33,9 +33,9 @@ returns-clause-bad_table g c =
     bad_table _ (outside (g.F.Files.seen c.args.files.now) (g.K.Sink.seen c.args.out.now))
     (outside (g.F.Files.seen c.run.new.files) (g.K.Sink.seen c.run.new.out)) c.run.result c.run.ensures.ends
 
-pub returns-clause-not_built : goal.returns-clause-not_built
-returns-clause-not_built g c =
-    not_built _ (outside (g.F.Files.seen c.args.files.now) (g.K.Sink.seen c.args.out.now))
+pub returns-clause-bad_machine : goal.returns-clause-bad_machine
+returns-clause-bad_machine g c =
+    bad_machine _ (outside (g.F.Files.seen c.args.files.now) (g.K.Sink.seen c.args.out.now))
     (outside (g.F.Files.seen c.run.new.files) (g.K.Sink.seen c.run.new.out)) c.run.result c.run.ensures.ends
 
 pub returns-clause-bad_script : goal.returns-clause-bad_script

@@ -8,6 +8,5 @@ returns c =
     let words = four_items c.args.words.now c.command-item.result c.hest-item.result c.einj-item.result c.script-item.result
     c.in-len4.len_at_least c.in-len4.len_below c.command-item.is c.hest-item.is c.einj-item.is c.script-item.is in
     let command : c.as_str.result.now ≡ codes "replay" = search rules in
-    let einj : c.as_str-else-ne.result.now ≡ codes "-" = search rules in
     four_words c.args.words.now c.command-item.result c.hest-item.result c.einj-item.result c.script-item.result _ _ _ _ words
-    (sym c.as_str.ensures.value ∙ command) (sym c.as_str-2.ensures.value) (sym c.as_str-else-ne.ensures.value ∙ einj) (sym c.as_str-3.ensures.value)
+    (sym c.as_str.ensures.value ∙ command) (sym c.as_str-2.ensures.value) (sym c.as_str-3.ensures.value) (sym c.as_str-4.ensures.value)

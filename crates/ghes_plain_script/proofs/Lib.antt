@@ -1,4 +1,0 @@
-pub mod BlockLemmas
-pub mod LineLemmas
-pub mod OneReading
-pub mod Scanning

@@ -1,4 +1,0 @@
-pub mod Reading
-pub mod Script
-pub mod Spelling
-pub mod Text

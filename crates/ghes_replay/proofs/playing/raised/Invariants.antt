@@ -1,0 +1,7 @@
+use Rattle.std.proofs.Common.{◌≡◌, map, take}
+use Rattle.ghes_replay.specs.Planned.{raised_of}
+use Rattle.ghes_replay.proofs.playing.raised.Given as goal
+
+-- those of so many, in order
+abbrev pub invariant-loop-port : goal.invariant-loop-port
+invariant-loop-port l = l.raised.items ≡ map raised_of (take l.port-index l.ports)
