@@ -20,7 +20,8 @@ expect() {
     echo "ok $name"
   fi
 }
-expect "the stored example" 0 "nmi 1: queued 1" replay "$data/hest.bin" - "$data/script"
+expect "the stored example" 0 "inject 0x00000008: source 9 block 1" replay "$data/server.bin" "$data/einj.bin" "$data/server.script"
+expect "a block on one source" 0 "nmi 1: queued 1" replay "$data/hest.bin" - "$data/script"
 expect "a listing" 0 "hest: 1 sources" check "$data/hest.bin" -
 expect "a listing of a server" 0 "hest: 7 sources" check "$data/server.bin" -
 expect "a listing with an injection table" 0 "hest: 1 sources" check "$data/hest.bin" "$data/einj.bin"
@@ -39,6 +40,8 @@ else
   echo "skipped the tables of this machine: there are none that this user may read"
 fi
 expect "a missing file" 5 "ghes: read $folder/none: 1 failed" replay "$folder/none" - "$data/script"
+expect "a missing script" 5 "ghes: read $folder/none: 1 failed" replay "$data/server.bin" "$data/einj.bin" "$folder/none"
+expect "an injection without its table" 4 "ghes: script: line 2: 10 no injection" replay "$data/server.bin" - "$data/server.script"
 expect "a folder" 5 "ghes: read $folder: 1 failed" replay "$folder" - "$data/script"
 expect "a file of the kernel, whose size says nothing" 3 "ghes: hest: 1 table: 2 signature" replay /proc/version - "$data/script"
 expect "words that are no text" 2 "ghes: usage: replay HEST EINJ SCRIPT | check HEST EINJ | decode BLOCK | load N" check $'\xff' -

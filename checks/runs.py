@@ -27,6 +27,10 @@ MEMORY = (
     "00f0ffffffffffff" + "00" * 40 + "02" + "00" * 7
 )
 BARE = "0200000000000000000000000000000002000000"
+NONE = BARE[:32] + "03000000"
+FATAL = "0100000000000000000000000000000001000000"
+BLOCKS = {"Z": BARE, "ZI": NONE, "ZF": FATAL, "B1": MEMORY, **{f"Z{k}": f"{k}{BARE[1:]}" for k in range(1, 7)}}
+CORRECTED = "  severity corrected\n"
 TWO = (
     "2200000000000000000000009000000002000000"
     "33221100554477668899aabbccddeeff020000000102000004000000" + "00" * 36 + "01020304"
@@ -64,22 +68,48 @@ def server(enabled):
     return table(*others, blank(56, {0: 8, 2: 4}), *generic)
 
 
-def summary(raised, acknowledged, delivered, dropped=0, panic=0, no_slot=0, source=1):
-    return (
-        f"summary\nsource {source}: raised {raised}, acknowledged {acknowledged}, delivered {delivered}, duplicate 0, "
-        f"dropped {dropped}, panic {panic}\nreports {delivered}, repeats 0, no slot {no_slot}, fault 0\n"
-    )
-
-
 def totals(sources, reports, no_slot=0, fault=0):
-    """The summary of sources, each with its raised, acknowledged and delivered blocks."""
-    lines = "".join(f"source {i}: raised {r}, acknowledged {a}, delivered {d}, duplicate 0, dropped 0, panic 0\n"
-                    for i, r, a, d in sources)
+    """The summary of sources, each with its id and its raised, acknowledged, delivered, dropped and panicked blocks."""
+    lines = "".join(f"source {i}: raised {r}, acknowledged {a}, delivered {d}, duplicate 0, dropped {e}, panic {p}\n"
+                    for i, r, a, d, e, p in ((*source, 0, 0)[:6] for source in sources))
     return f"summary\n{lines}reports {reports}, repeats 0, no slot {no_slot}, fault {fault}\n"
+
+
+def summary(raised, acknowledged, delivered, dropped=0, panic=0, no_slot=0, source=1, fault=0):
+    """The summary of one source."""
+    return totals([(source, raised, acknowledged, delivered, dropped, panic)], delivered, no_slot, fault)
+
+
+def report(source, number, body=CORRECTED):
+    return f"report source {source} block {number}\n{body}"
+
+
+def panicked(fatal, *pending):
+    """The panic report of bare blocks, each by its source, its number and its severity."""
+    lines = [("pending", *block) for block in pending] + [("fatal", *fatal, "fatal")]
+    text = "".join(f"{word} source {i} block {n}\n  severity {severity}\n" for word, i, n, severity in lines)
+    return f"panic\n{text}end of panic\n"
+
+
+def entry(kind, fields, severity="corrected"):
+    """The body of a block of one entry, with these lines of its section."""
+    lines = "".join(f"    {field}\n" for field in fields)
+    return f"  severity {severity}\n  entry 0 {kind} severity {severity}\n{lines}"
+
+
+def script(lines):
+    """The script of these lines, with `;` between them. The name of a block stands for its digits."""
+    return "".join(" ".join(BLOCKS.get(word, word) for word in line.split()) + "\n" for line in lines.split(";")).encode()
 
 
 ONE = HEADER + SOURCE
 EINJ = (TOP / "crates/ghes/data/einj.bin").read_bytes()
+NO_ADDRESS = mended(changed(EINJ[:-32], {44: 8}))
+TABLES = {
+    "one": ONE, "v2": table(SOURCE_2), "two": table(SOURCE, SOURCE_2), "server": server(1), "none": table(),
+    "three": table(*[changed(SOURCE, {2: 1 + i, 24: 8 * i}) for i in range(3)]), "e": EINJ, "bare": NO_ADDRESS,
+}
+MEMORY_BODY = entry("memory", ["physical address 0x0000000012345000", "mask 0xfffffffffffff000", "type 0x02"])
 SERVER_TEXT = (
     "hest: 7 sources\n0 at 40: type 0, length 152\n1 at 192: type 1, length 160\n2 at 352: type 6, length 48\n"
     "3 at 400: type 7, length 44\n4 at 444: type 8, length 56\n8 at 500: ghes enabled, notification 4, block length 4096\n"
@@ -178,96 +208,224 @@ def served():
 
 
 def machines():
-    """What a machine of several sources prints, with its settings and injections."""
-    z, zi = BARE, BARE[:32] + "03" + BARE[34:]
-    files = {"one": ONE, "two": table(SOURCE, SOURCE_2), "v2": table(SOURCE_2), "e": EINJ, "server": server(1)}
-    report = "report source {} block 1\n  severity {}\n"
-    memory = ("  severity corrected\n  entry 0 memory severity corrected\n    physical address 0x0000000012345678\n"
-              "    mask 0xfffffffffffff000\n    type 0x02\n")
-    asked = "inject 0x8 memory 0x12345678 0xfffffffffffff000\nnmi 1\n"
-    for name, words, script, text in [
-        ("a pool of one slot", "two -", f"slots 1\nraise 1 {z}\nraise 2 {zi}\nnmi 1\nnmi 2\nwork\nnmi 2\n",
-         "nmi 1: queued 1\nnmi 2: no slot\n" + report.format(1, "corrected") + "nmi 2: queued 1\n" + report.format(2, "none")
-         + totals([(1, 1, 1, 1), (2, 1, 1, 1)], 2, no_slot=1)),
-        ("a read ack register", "v2 -", f"ackcell 2 0xabcd00f0\nraise 2 {z}\nnmi 2\npeek 2\n",
-         "nmi 2: queued 1\ncell 2: 0xabcd00f1\n" + report.format(2, "corrected") + summary(1, 1, 1, source=2)),
-        ("a server's sources", "server -", f"raise 8 {z}\nraise 9 {zi}\nnmi 8\nnmi 9\n",
-         "nmi 8: queued 1\nnmi 9: queued 1\n" + report.format(8, "corrected") + report.format(9, "none")
-         + totals([(8, 1, 1, 1), (9, 1, 1, 1)], 2)),
-        *[(f"an injection that is busy {n} times", "one e", f"busy {n}\n" + asked,
-           "inject 0x00000008: source 1 block 1\nnmi 1: queued 1\nreport source 1 block 1\n" + memory + summary(1, 1, 1))
-          for n in (2, 999)],
-        ("an injection that stays busy", "one e", "busy 1000\n" + asked,
-         "inject 0x00000008: busy\nnmi 1: nothing\n" + summary(0, 0, 0)),
-        ("a type that is not available", "one e", "available 0x1\ninject 0x8\n", "inject 0x00000008: not available\n" + summary(0, 0, 0)),
-        ("a command status", "one e", f"status 2\ninject 0x8\nraise 1 {z}\nnmi 1\n",
-         "inject 0x00000008: status 2\nnmi 1: queued 1\n" + report.format(1, "corrected") + summary(1, 1, 1)),
-        ("a call whose access fails", "one -", f"raise 1 {z}\nfail 1 1\nnmi 1\nnmi 1\n",
-         "nmi 1: fault\nnmi 1: queued 1\n" + report.format(1, "corrected") + totals([(1, 1, 1, 1)], 1, fault=1)),
+    """What a replay of several sources prints, with its settings, its clock and its cells."""
+    ack = [("8 bits", {65: 8, 67: 1}, "0xf0", "0xf1"), ("16 bits", {65: 16, 67: 2}, "0x00f0", "0x00f1"),
+           ("a field at bit 8", {65: 8, 66: 8}, "0xabcd00f0", "0xabcd0100"),
+           ("64 bits", {65: 64, 67: 4}, "0x12345678abcd00f0", "0x00000000abcd00f1")]
+    called = "raise {0} Z; nmi {0}"
+    for name, words, lines, text, status in [
+        ("a pool of one slot", "two -", "slots 1; raise 1 Z; raise 2 ZI; nmi 1; nmi 2; work; nmi 2",
+         "nmi 1: queued 1\nnmi 2: no slot\n" + report(1, 1) + "nmi 2: queued 1\n" + report(2, 1, "  severity none\n")
+         + totals([(1, 1, 1, 1), (2, 1, 1, 1)], 2, no_slot=1), 0),
+        ("a fatal block needs no slot", "one -", "slots 2; raise 1 Z; raise 1 ZI; raise 1 ZF; nmi 1; nmi 1; nmi 1; nmi 1",
+         "nmi 1: queued 1\nnmi 1: queued 2\nnmi 1: fatal 3\n" + panicked((1, 3), (1, 1, "corrected"), (1, 2, "none"))
+         + summary(3, 3, 0, panic=3), 1),
+        ("a read ack register", "v2 -", "ackcell 2 0xabcd00f0; raise 2 B1; nmi 2; peek 2",
+         "nmi 2: queued 1\ncell 2: 0xabcd00f1\n" + report(2, 1, MEMORY_BODY) + summary(1, 1, 1, source=2), 0),
+        ("a second block stands behind the acknowledgement of the first", "v2 -", "raise 2 Z1; raise 2 Z2; nmi 2; nmi 2; nmi 2",
+         "nmi 2: queued 1\nnmi 2: queued 2\nnmi 2: nothing\n" + report(2, 1) + report(2, 2) + summary(2, 2, 2, source=2), 0),
+        ("a cell before any call, and the low bits of a setting", "v2 -", "ackcell 2 1; ackcell 2 0x123456789; peek 2; peek 2",
+         "cell 2: 0x23456789\ncell 2: 0x23456789\n" + summary(0, 0, 0, source=2), 0),
+        ("a cell that was never set", "two -", "peek 2", "cell 2: 0x00000000\n" + totals([(1, 0, 0, 0), (2, 0, 0, 0)], 0), 0),
+        ("no source of that kind", "two -", "peek 1", "ghes: script: line 1: 9 source\n", 4),
+        ("a server's sources", "server -", "raise 8 Z; raise 9 ZI; nmi 8; nmi 9",
+         "nmi 8: queued 1\nnmi 9: queued 1\n" + report(8, 1) + report(9, 1, "  severity none\n")
+         + totals([(8, 1, 1, 1), (9, 1, 1, 1)], 2), 0),
+        ("the clock prints nothing", "one -", "clock 0; clock 10; clock 10; raise 1 Z; nmi 1; clock 18446744073709551615; work",
+         "nmi 1: queued 1\n" + report(1, 1) + summary(1, 1, 1), 0),
+        ("the clock falls", "one -", "clock 10; clock 9", "ghes: script: line 2: 6 order\n", 4),
     ]:
-        yield name, {**files, "s": script.encode()}, f"replay {words} s", 0, text
+        yield name, {**TABLES, "s": script(lines)}, f"replay {words} s", status, text
+    for name, changes, before, after in ack:
+        yield (f"a read ack register: {name}", {"h": table(changed(SOURCE_2, changes)),
+               "s": script(f"ackcell 2 {before}; peek 2; raise 2 Z; nmi 2; peek 2")}, "replay h - s", 0,
+               f"cell 2: {before}\nnmi 2: queued 1\ncell 2: {after}\n" + report(2, 1) + summary(1, 1, 1, source=2))
+
+
+def injections():
+    """What an injection makes, or how it ends."""
+    asked = "inject 0x8 memory 0x12345678 0xfffffffffffff000"
+    place = ["physical address 0x0000000012345678", "mask 0xfffffffffffff000"]
+    pcie = ["vendor 0x0000", "device id 0x0000", "class 000000", "function 0x03", "device 0x01", "segment 0x0001", "bus 0x02",
+            "secondary bus 0x00", "slot 0x0000"]
+    platform = "section 6b1d0c52-98f4-4c3a-8e0b-2f7a51c0d9e3"
+    some = entry("memory", ["type 0x02"])
+    for lines, error, body in [
+        (asked, 8, entry("memory", place + ["type 0x02"])), ("busy 2; " + asked, 8, entry("memory", place + ["type 0x02"])),
+        ("busy 999; " + asked, 8, entry("memory", place + ["type 0x02"])), ("inject 8", 8, some),
+        (asked.replace("0x8", "0x10"), 16, entry("memory", place + ["type 0x03"], "recoverable")),
+        ("inject 1 processor 7", 1, entry("processor", ["id 0x0000000000000007"])),
+        ("inject 0x40 pcie 0x01020b00", 64, entry("pcie", pcie)), ("inject 0x40", 64, entry("pcie", [])),
+        ("inject 0x200", 512, entry(platform, ["data 0002000000000000"])),
+    ]:
+        yield (lines, {**TABLES, "s": script(lines + "; nmi 1")}, "replay one e s", 0,
+               f"inject 0x{error:08x}: source 1 block 1\nnmi 1: queued 1\n" + report(1, 1, body) + summary(1, 1, 1))
+    for words, lines, text, status in [
+        ("one e", f"busy 1000; {asked}; nmi 1", "inject 0x00000008: busy\nnmi 1: nothing\n" + summary(0, 0, 0), 0),
+        ("one e", "available 0x1; inject 0x8", "inject 0x00000008: not available\n" + summary(0, 0, 0), 0),
+        ("one e", "status 2; inject 0x8; raise 1 Z; nmi 1",
+         "inject 0x00000008: status 2\nnmi 1: queued 1\n" + report(1, 1) + summary(1, 1, 1), 0),
+        ("one bare", f"{asked}; inject 0x8; nmi 1",
+         "inject 0x00000008: no address\ninject 0x00000008: source 1 block 1\nnmi 1: queued 1\n" + report(1, 1, some)
+         + summary(1, 1, 1), 0),
+        ("one e", "raise 1 Z; inject 8; nmi 1; nmi 1", "inject 0x00000008: source 1 block 2\nnmi 1: queued 1\nnmi 1: queued 2\n"
+         + report(1, 1) + report(1, 2, some) + summary(2, 2, 2), 0),
+        ("two e", "route memory 2; inject 8; inject 0x40; nmi 2; nmi 1",
+         "inject 0x00000008: source 2 block 1\ninject 0x00000040: source 1 block 1\nnmi 2: queued 1\nnmi 1: queued 1\n"
+         + report(2, 1, some) + report(1, 1, entry("pcie", [])) + totals([(1, 1, 1, 1), (2, 1, 1, 1)], 2), 0),
+        ("one e", asked.replace("0x8", "0x20") + "; nmi 1; inject 8", "inject 0x00000020: source 1 block 1\nnmi 1: fatal 1\n"
+         "panic\nfatal source 1 block 1\n" + entry("memory", place + ["type 0x03"], "fatal") + "end of panic\n"
+         + summary(1, 1, 0, panic=1), 1),
+    ]:
+        yield f"{words}: {lines}", {**TABLES, "s": script(lines)}, f"replay {words} s", status, text
+
+
+def turns():
+    """What a `run` prints: the contexts make their turns one after another, and the text goes by source."""
+    each = "".join(f"nmi {i}: queued 1\nnmi {i}: queued 2\n" + f"nmi {i}: nothing\n" * 2 + report(i, 1) + report(i, 2)
+                   for i in (1, 2, 3))
+    twice = "raise 1 Z1; raise 1 Z2; raise 2 Z3; raise 2 Z4; raise 3 Z5; raise 3 Z6"
+    once = "raise 1 Z1; raise 2 Z2; raise 3 Z3"
+    for lines, text, status in [
+        (f"contexts 3; {twice}; run 4", "run 4\n" + each + totals([(i, 2, 2, 2) for i in (1, 2, 3)], 6), 0),
+        # Context 0 has the sources 1 and 3, and takes all three slots before context 1 makes a turn.
+        (f"contexts 2; slots 3; {twice}; run 2",
+         "run 2\nnmi 1: queued 1\nnmi 1: queued 2\n" + report(1, 1) + report(1, 2) + "nmi 2: no slot\n" * 2
+         + "nmi 3: queued 1\nnmi 3: no slot\n" + report(3, 1)
+         + totals([(1, 2, 2, 2), (2, 2, 0, 0), (3, 2, 1, 1)], 3, no_slot=3), 0),
+        # Context 0 has the sources 1 and 2.
+        (f"contexts 2; serve 2 0; serve 3 1; slots 3; {twice}; run 2",
+         "run 2\nnmi 1: queued 1\nnmi 1: queued 2\n" + report(1, 1) + report(1, 2) + "nmi 2: queued 1\nnmi 2: no slot\n"
+         + report(2, 1) + "nmi 3: no slot\n" * 2 + totals([(1, 2, 2, 2), (2, 2, 1, 1), (3, 2, 0, 0)], 3, no_slot=3), 0),
+        # Context 0 has none, and context 1 has source 2.
+        (f"contexts 3; serve 1 2; slots 1; {once}; run 1",
+         "run 1\nnmi 1: no slot\nnmi 2: queued 1\n" + report(2, 1) + "nmi 3: no slot\n"
+         + totals([(1, 1, 0, 0), (2, 1, 1, 1), (3, 1, 0, 0)], 1, no_slot=2), 0),
+        # What is pending before a run is taken in it, and printed by source.
+        (f"{once}; nmi 3; nmi 1; run 1; work; run 1",
+         "nmi 3: queued 1\nnmi 1: queued 1\nrun 1\nnmi 1: nothing\n" + report(1, 1) + "nmi 2: queued 1\n" + report(2, 1)
+         + "nmi 3: nothing\n" + report(3, 1) + "run 1\nnmi 1: nothing\nnmi 2: nothing\nnmi 3: nothing\n"
+         + totals([(i, 1, 1, 1) for i in (1, 2, 3)], 3), 0),
+        # Source 2 is fatal in the second turn of context 1: context 2 makes one call, and its block stands.
+        ("contexts 3; raise 1 ZI; raise 2 Z1; raise 2 ZF; raise 2 Z2; raise 3 Z3; run 3; raise 1 Z4; nmi 3; work; run 1",
+         "run 3\nnmi 1: queued 1\nnmi 1: nothing\nnmi 1: nothing\nnmi 2: queued 1\nnmi 2: fatal 2\nnmi 3: stopped\n"
+         + panicked((2, 2), (1, 1, "none"), (2, 1, "corrected"))
+         + totals([(1, 1, 1, 0, 0, 1), (2, 3, 2, 0, 0, 2), (3, 1, 0, 0)], 0), 1),
+        # A context ends at its own fatal block, before its next source.
+        ("contexts 2; raise 1 ZF; raise 3 Z; run 2", "run 2\nnmi 1: fatal 1\nnmi 2: stopped\n" + panicked((1, 1))
+         + totals([(1, 1, 1, 0, 0, 1), (2, 0, 0, 0), (3, 1, 0, 0)], 0), 1),
+    ]:
+        yield lines, {**TABLES, "s": script(lines)}, "replay three - s", status, text
+    h = table(*[changed(SOURCE, {2: i, 24: 8 * i % 256, 25: 8 * i // 256}) for i in range(64)])
+    lines = "contexts 16; slots 64; " + "; ".join(f"raise {i} {4 * i + 2:02x}{BARE[2:]}" for i in range(64)) + "; run 1000"
+    text = "".join(f"nmi {i}: queued 1\n" + f"nmi {i}: nothing\n" * 999 + report(i, 1) for i in range(64))
+    yield ("64 sources and 1,000 turns", {"h": h, "s": script(lines)}, "replay h - s", 0,
+           "run 1000\n" + text + totals([(i, 1, 1, 1) for i in range(64)], 64))
+
+
+def faults():
+    """What a failed access leaves: the accesses of a source are counted from its line `fail` on."""
+    for access in range(1, 8):
+        calls = ("nmi 2: fault\ncell 2: 0x00000000\nnmi 2: queued 1\ncell 2: 0x00000001\n" if access < 5 else
+                 "nmi 2: queued 1, ack failed\ncell 2: 0x00000000\nnmi 2: nothing\ncell 2: 0x00000000\n" if access < 7 else
+                 "nmi 2: queued 1\ncell 2: 0x00000001\nnmi 2: fault\ncell 2: 0x00000001\n")
+        yield (f"access {access} of a block with an entry",
+               {**TABLES, "s": script(f"raise 2 B1; fail 2 {access}; nmi 2; peek 2; nmi 2; peek 2")}, "replay v2 - s", 0,
+               calls + report(2, 1, MEMORY_BODY) + summary(1, 1, 1, source=2, fault=int(access not in (5, 6))))
+    malformed = "0200000000000000000000000100000002000000"
+    for words, lines, text, status in [
+        ("one -", "raise 1 Z; fail 1 1; nmi 1; fail 1 2; nmi 1; fail 1 3; nmi 1; nmi 1",
+         "nmi 1: fault\n" * 3 + "nmi 1: queued 1\n" + report(1, 1) + summary(1, 1, 1, fault=3), 0),
+        ("v2 -", "raise 2 Z; raise 2 ZI; fail 2 5; nmi 2; nmi 2",
+         "nmi 2: queued 1, ack failed\nnmi 2: nothing\n" + report(2, 1) + summary(2, 1, 1, source=2), 0),
+        ("v2 -", f"raise 2 {malformed}; fail 2 4; nmi 2", "nmi 2: malformed 1: 3 data length, ack failed\n"
+         f"dropped source 2 block 1: 3 data length\n  data {malformed}\n" + summary(1, 1, 0, 1, source=2), 0),
+        ("v2 -", "raise 2 ZF; fail 2 4; nmi 2", "nmi 2: fatal 1, ack failed\n" + panicked((2, 1))
+         + summary(1, 1, 0, panic=1, source=2), 1),
+        # A fatal block that is not cleared stands, and is no fatal one.
+        ("one -", "raise 1 ZF; fail 1 3; nmi 1", "nmi 1: fault\n" + summary(1, 0, 0, fault=1), 0),
+        ("one -", "fail 1 1; nmi 1; nmi 1", "nmi 1: fault\nnmi 1: nothing\n" + summary(0, 0, 0, fault=1), 0),
+        ("one -", "raise 1 Z; fail 1 1; fail 1 1; nmi 1; nmi 1",
+         "nmi 1: fault\nnmi 1: queued 1\n" + report(1, 1) + summary(1, 1, 1, fault=1), 0),
+        # The failed access is the first, so that the second is that of the next call.
+        ("one -", "raise 1 Z; fail 1 1; fail 1 2; nmi 1; nmi 1; nmi 1",
+         "nmi 1: fault\n" * 2 + "nmi 1: queued 1\n" + report(1, 1) + summary(1, 1, 1, fault=2), 0),
+        ("two -", "raise 1 Z1; raise 2 Z2; fail 2 1; nmi 1; nmi 2; nmi 2", "nmi 1: queued 1\nnmi 2: fault\nnmi 2: queued 1\n"
+         + report(1, 1) + report(2, 1) + totals([(1, 1, 1, 1), (2, 1, 1, 1)], 2, fault=1), 0),
+        ("three -", "contexts 3; raise 1 Z1; raise 2 Z2; fail 1 1; fail 2 2; run 2", "run 2\nnmi 1: fault\nnmi 1: queued 1\n"
+         + report(1, 1) + "nmi 2: fault\nnmi 2: queued 1\n" + report(2, 1) + "nmi 3: nothing\n" * 2
+         + totals([(1, 1, 1, 1), (2, 1, 1, 1), (3, 0, 0, 0)], 2, fault=2), 0),
+    ]:
+        yield f"{words}: {lines}", {**TABLES, "s": script(lines)}, f"replay {words} s", status, text
+
+
+def many():
+    """How many blocks a machine has at most."""
+    line, room = f"raise 1 {BARE}\n", "ghes: platform: 2 room\n"
+    full = line * 65_536
+    for name, words, text, output, status in [
+        ("65,536 blocks", "one -", full, summary(65_536, 0, 0), 0), ("65,537 blocks", "one -", full + line, room, 8),
+        ("65,537 blocks of two sources", "two -", full[len(line):] + f"raise 2 {BARE}\n" * 2, room, 8),
+        ("a bad line behind them", "one -", full + line + "works\n", "ghes: script: line 65538: 1 command\n", 4),
+        ("an injected block behind them", "one e", full + "inject 8\n", room, 8),
+        ("an injection that makes none", "one e", "available 1\n" + full + "inject 8\n",
+         "inject 0x00000008: not available\n" + summary(65_536, 0, 0), 0),
+        ("lines that are not executed", "one -", f"raise 1 {FATAL}\nnmi 1\n" + full,
+         "nmi 1: fatal 1\n" + panicked((1, 1)) + summary(1, 1, 0, panic=1), 1),
+    ]:
+        yield name, {**TABLES, "s": text.encode()}, f"replay {words} s", status, output
 
 
 def scripts():
     """At which line a script is refused."""
-    for script, end in [
-        ("work\nnmi 1\nworks\nnmi 7\n", "3: 1 command"),
-        ("raise 7 zz\n", "1: 9 source"),
-        ("nmi 1\nslots 2\n", "2: 6 order"),
-        ("inject 0x8\n", "1: 10 no injection"),
-        ("raise 1 020\n", "1: 4 hex"),
-        (f"raise 1 {BARE}\nraise 1 zz\n", "2: 4 hex"),
-        ("work\nraise 1 0000000000000000000000000000000002000000", "2: 5 range"),
+    for words, text, end in [
+        ("one -", "work\nnmi 1\nworks\nnmi 7\n", "3: 1 command"), ("one -", "nmi 1\nslots 2\n", "2: 6 order"),
+        ("one -", f"raise 7 {BARE}\n", "1: 9 source"), ("one -", "raise 7 zz\n", "1: 9 source"),
+        ("one -", "raise 1 020\n", "1: 4 hex"), ("one -", f"raise 1 {BARE}\nraise 1 zz\n", "2: 4 hex"),
+        ("one -", "work\nraise 1 0000000000000000000000000000000002000000", "2: 5 range"),
+        ("one -", f"raise 1 {BARE}{'00' * 65_517}\n", "1: 5 range"), ("one -", "#" * 132_001 + "\n", "1: 8 too long"),
+        ("one -", "ackcell 1 0\n", "1: 9 source"), ("one -", "slots 65\n", "1: 5 range"), ("one -", "serve 1 1\n", "1: 5 range"),
+        ("one -", "serve 1 0\ncontexts 2\n", "2: 6 order"), ("one -", "run 0\n", "1: 5 range"), ("one -", "run 1001\n", "1: 5 range"),
+        ("one -", "fail 1 0\n", "1: 5 range"), ("one -", "fail 1 17\n", "1: 5 range"), ("one -", "fail 2 1\n", "1: 9 source"),
+        ("one -", "inject 0x8\n", "1: 10 no injection"), ("one e", "inject 0x3\n", "1: 5 range"),
+        ("one e", "inject 0x1000\n", "1: 5 range"), ("none e", "inject 0x8\n", "1: 9 source"), ("none e", "inject x\n", "1: 3 number"),
     ]:
-        yield f"line {end}", {"h": ONE, "s": script.encode()}, "replay h - s", 4, f"ghes: script: line {end}\n"
+        yield f"{text[:40]!r} at {end}", {**TABLES, "s": text.encode()}, f"replay {words} s", 4, f"ghes: script: line {end}\n"
     long = b"#" * 16_777_217
     yield "a script past the limit", {"h": ONE, "s": long}, "replay h - s", 5, "ghes: read s: 2 too long\n"
 
 
 def replays():
-    """What an accepted script prints."""
-    report = "report source 1 block 1\n  severity corrected\n"
-    for name, script, lines, counts, status in [
-        ("one block", f"raise 1 {BARE}\nnmi 1\nwork\n", "nmi 1: queued 1\n" + report, (1, 1, 1), 0),
-        ("an empty script", "", "", (0, 0, 0), 0),
-        ("no block stands, the end drains, and the last line has no line feed",
-         "nmi 1\nraise 1 0200000000000000000000000000000003000000\n"
-         "raise 1 0100000000000000000000000000000000000000\nnmi 1\nnmi 1",
-         "nmi 1: nothing\nnmi 1: queued 1\nnmi 1: queued 2\n"
-         "report source 1 block 1\n  severity none\nreport source 1 block 2\n  severity recoverable\n", (2, 2, 2), 0),
+    """What an accepted script of one source prints."""
+    malformed, behind = "0200000000000000000000000100000002000000", f"{MEMORY[:24]}91{MEMORY[26:]}00"
+    raw, longer, fatal_longer = (f"0{a}00000014000000e{b}0f0000000000000{a}000000" for a, b in ["2c", "2d", "1d"])
+    for name, lines, text, counts, status in [
+        ("one block", "raise 1 Z; nmi 1; work", "nmi 1: queued 1\n" + report(1, 1), (1, 1, 1), 0),
+        ("no line", "", "", (0, 0, 0), 0),
+        ("no block stands, and the end drains", f"nmi 1; raise 1 ZI; raise 1 01{'0' * 38}; nmi 1; nmi 1",
+         "nmi 1: nothing\nnmi 1: queued 1\nnmi 1: queued 2\n" + report(1, 1, "  severity none\n")
+         + report(1, 2, "  severity recoverable\n"), (2, 2, 2), 0),
         ("raw data up to the limit, and one byte more",
-         "raise 1 0200000014000000ec0f00000000000002000000\nraise 1 0200000014000000ed0f00000000000002000000\nnmi 1\nnmi 1\n",
-         "nmi 1: queued 1\nnmi 1: malformed 2: 2 too long\n" + report + "  raw 4076 bytes\n"
-         "dropped source 1 block 2: 2 too long\n  data 0200000014000000ed0f00000000000002000000\n", (2, 2, 1, 1), 0),
-        ("a fatal block behind two that are pending",
-         f"raise 1 {BARE}\nraise 1 0200000000000000000000000000000003000000\n"
-         "raise 1 0100000000000000000000000000000001000000\nnmi 1\nnmi 1\nnmi 1\nnmi 1\n",
-         "nmi 1: queued 1\nnmi 1: queued 2\nnmi 1: fatal 3\npanic\npending source 1 block 1\n  severity corrected\n"
-         "pending source 1 block 2\n  severity none\nfatal source 1 block 3\n  severity fatal\nend of panic\n",
-         (3, 3, 0, 0, 3), 1),
-        ("severity 4", "raise 1 0200000000000000000000000000000004000000\nnmi 1\n",
-         "nmi 1: fatal 1\npanic\nfatal source 1 block 1\n  severity fatal\nend of panic\n", (1, 1, 0, 0, 1), 1),
-        ("a fatal block that is malformed", "raise 1 0100000014000000ed0f00000000000001000000\nnmi 1\n",
-         "nmi 1: malformed 1: 2 too long\ndropped source 1 block 1: 2 too long\n"
-         "  data 0100000014000000ed0f00000000000001000000\n", (1, 1, 0, 1), 0),
+         f"raise 1 {raw}; raise 1 {longer}; nmi 1; nmi 1",
+         "nmi 1: queued 1\nnmi 1: malformed 2: 2 too long\n" + report(1, 1) + "  raw 4076 bytes\n"
+         f"dropped source 1 block 2: 2 too long\n  data {longer}\n", (2, 2, 1, 1), 0),
+        ("severity 4", f"raise 1 {BARE[:32]}04000000; nmi 1", "nmi 1: fatal 1\n" + panicked((1, 1)), (1, 1, 0, 0, 1), 1),
+        ("a fatal block that is malformed", f"raise 1 {fatal_longer}; nmi 1",
+         f"nmi 1: malformed 1: 2 too long\ndropped source 1 block 1: 2 too long\n  data {fatal_longer}\n", (1, 1, 0, 1), 0),
         ("a malformed block is pending, and lines behind the fatal call are not executed",
-         "raise 1 0200000000000000000000000100000002000000\nnmi 1\nraise 1 0100000000000000000000000000000001000000\nnmi 1\n"
-         f"raise 1 {BARE}\nnmi 1\nwork\n",
+         f"raise 1 {malformed}; nmi 1; raise 1 ZF; nmi 1; raise 1 Z; nmi 1; work",
          "nmi 1: malformed 1: 3 data length\nnmi 1: fatal 2\npanic\npending source 1 block 1\n  malformed 3 data length\n"
-         "  data 0200000000000000000000000100000002000000\nfatal source 1 block 2\n  severity fatal\nend of panic\n",
-         (2, 2, 0, 0, 2), 1),
-        ("what was delivered before a fatal block stays so",
-         f"raise 1 {BARE}\nnmi 1\nwork\nraise 1 0100000000000000000000000000000001000000\nnmi 1\n",
-         "nmi 1: queued 1\n" + report + "nmi 1: fatal 2\npanic\nfatal source 1 block 2\n  severity fatal\nend of panic\n",
-         (2, 2, 1, 0, 1), 1),
-        ("a memory section", f"raise 1 {MEMORY}\nnmi 1\n",
-         "nmi 1: queued 1\n" + report + "  entry 0 memory severity corrected\n    physical address 0x0000000012345000\n"
-         "    mask 0xfffffffffffff000\n    type 0x02\n", (1, 1, 1), 0),
-        ("a byte behind its entry", f"raise 1 {MEMORY[:24]}91{MEMORY[26:]}00\nnmi 1\n",
-         "nmi 1: malformed 1: 6 left over\ndropped source 1 block 1: 6 left over\n"
-         f"  data {MEMORY[:24]}91{MEMORY[26:]}00\n", (1, 1, 0, 1), 0),
+         f"  data {malformed}\nfatal source 1 block 2\n  severity fatal\nend of panic\n", (2, 2, 0, 0, 2), 1),
+        ("what was delivered before a fatal block stays so", "raise 1 Z; nmi 1; work; raise 1 ZF; nmi 1",
+         "nmi 1: queued 1\n" + report(1, 1) + "nmi 1: fatal 2\n" + panicked((1, 2)), (2, 2, 1, 0, 1), 1),
+        ("a memory section", "raise 1 B1; nmi 1", "nmi 1: queued 1\n" + report(1, 1, MEMORY_BODY), (1, 1, 1), 0),
+        ("a byte behind its entry", f"raise 1 {behind}; nmi 1", "nmi 1: malformed 1: 6 left over\n"
+         f"dropped source 1 block 1: 6 left over\n  data {behind}\n", (1, 1, 0, 1), 0),
     ]:
-        yield name, {"h": ONE, "s": script.encode()}, "replay h - s", status, lines + summary(*counts)
+        yield name, {"h": ONE, "s": script(lines)}, "replay h - s", status, text + summary(*counts)
+    yield ("an empty script", {"h": ONE, "s": b""}, "replay h - s", 0, summary(0, 0, 0))
+    yield ("no line feed behind the last line", {"h": ONE, "s": b"nmi 1\nnmi 1"}, "replay h - s", 0,
+           "nmi 1: nothing\n" * 2 + summary(0, 0, 0))
 
 
 def limits():
@@ -278,6 +436,7 @@ def limits():
         ("zeros behind a short block", 40, "0200000014000000140000000000000002000000", 0, None, 20),
         ("one byte too many", 40, "0200000014000000150000000000000002000000", 40, "2 too long", 0),
         ("65,536 at most", 131_072, "0200000014000000ecff00000000000002000000", 0, None, 65_516),
+        ("65,536 bytes", 131_072, "0200000014000000ecff00000000000002000000", 65_516, None, 65_516),
         ("one byte above", 131_072, "0200000014000000edff00000000000002000000", 0, "2 too long", 0),
     ]:
         h = table(SOURCE[:60] + limit.to_bytes(4, "little"))
@@ -354,7 +513,8 @@ def blocks():
 
 def main():
     failures = count = 0
-    for topic in [usages, listings, tables, served, machines, scripts, replays, limits, rounds, blocks]:
+    for topic in [usages, listings, tables, served, machines, injections, turns, faults, many, scripts, replays, limits, rounds,
+                  blocks]:
         for name, files, words, status, text in topic():
             with tempfile.TemporaryDirectory() as folder:
                 for file, contents in files.items():
@@ -369,4 +529,5 @@ def main():
     return 1 if failures else 0
 
 
-sys.exit(main())
+if __name__ == "__main__":
+    sys.exit(main())
