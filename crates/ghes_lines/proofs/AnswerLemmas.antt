@@ -1,5 +1,5 @@
 -- What a call answers says of the block that stands, of the slots, and of the laws of a call.
-use Rattle.std.proofs.Common.{◌≡◌, ◌≤◌, ◌<◌, ℕ, ◌+◌, Bool, true, false, cond, ltb, ◌&&◌, ◌⊎◌, inl, inr, List, [], ◌∷◌, ◌++◌, length, refl, sym, ap, subst, ◌∙◌, arith, Option, Some, None}
+use Rattle.std.proofs.Common.{◌≡◌, ◌≤◌, ℕ, ◌+◌, Bool, true, false, cond, ◌&&◌, ◌⊎◌, inl, inr, List, ◌∷◌, length, refl, sym, ap, subst, ◌∙◌, arith, Option, Some, None}
 use Rattle.std.specs.Prelude.{is_some, slice_get, if◌then◌else◌}
 use Rattle.std.specs.List.{AllByRecursion}
 use Rattle.apei_base.specs.Firmware.{Seen, standing as stands_in}
@@ -11,17 +11,16 @@ use Rattle.ghes_call.specs.declared.call.AckState.{AckState}
 use Rattle.ghes_call.specs.declared.call.AckState.TheVariants.{NotAsked, Done, Failed}
 use Rattle.ghes_call.specs.declared.call.Outcome.{Outcome}
 use Rattle.ghes_call.specs.declared.call.Outcome.TheVariants.{Nothing, Queued, Malformed, Duplicate, Fatal, NoSlot, Fault, Stopped}
-use Rattle.ghes_ledger.proofs.HitLemmas.{hit_without_places}
 use Rattle.ghes_ledger.specs.History.{Executed, calls_in, taken_in}
 use Rattle.ghes_ledger.specs.Lawful.{IsAsked, FitsBlock, FitsSlots, FitsStop, FitsHit, FitsLook}
 use Rattle.ghes_ledger.specs.Names.{queued_names}
 use Rattle.ghes_ledger.specs.Outcomes.{number_of, acknowledges}
 use Rattle.ghes_ledger.specs.Plan.{Plan}
-use Rattle.ghes_ledger.specs.Queue.{queue, acknowledged, stuck_calls, standing}
+use Rattle.ghes_ledger.specs.Queue.{queue, acknowledged, standing}
 use Rattle.ghes_ledger.specs.Reports.{hit}
 use Rattle.ghes_ledger.specs.declared.ledger.Report.{Report}
 use Rattle.ghes_nmi.specs.Steps.{failure_of}
-use Rattle.ghes_lines.specs.Call.{failure_by, ack_by, saw_by}
+use Rattle.ghes_lines.specs.Call.{ack_by, saw_by}
 use Rattle.ghes_lines.specs.Follows.{IsTied}
 use Rattle.ghes_call.specs.declared.call.Call.{Call}
 

@@ -1,6 +1,6 @@
 -- A replay goes on by a line, told what the line did.
-use Rattle.std.proofs.Common.{◌≡◌, ◌<◌, ℕ, arith, List, [], ◌∷◌, refl, sym, ap, subst, ◌∙◌, Option, Some, None, unwrap_or}
-use Rattle.std.specs.Prelude.{Result, Ok, Err, OnOk, slice_set}
+use Rattle.std.proofs.Common.{◌≡◌, ◌<◌, ℕ, arith, List, [], ◌∷◌, refl, sym, subst, Option, Some, None, unwrap_or}
+use Rattle.std.specs.Prelude.{Result, Ok, Err, OnOk}
 use Rattle.apei_base.specs.Bus.{Reach}
 use Rattle.apei_base.specs.Firmware.{Seen, FitsAck}
 use Rattle.ghes_ledger.specs.History.{Act, Executed}

@@ -1,6 +1,6 @@
 -- A history and what it leads to go on by one line.
-use Rattle.std.proofs.Common.{◌≡◌, ◌≤◌, ◌<◌, ℕ, ◌+◌, Bool, true, false, cond, eqb, ltb, List, [], ◌∷◌, ◌++◌, map, length, refl, sym, ap, subst, ◌∙◌, arith, append-nil, Option, Some, None}
-use Rattle.std.specs.Prelude.{slice_get, slice_set, is_some}
+use Rattle.std.proofs.Common.{◌≡◌, ◌≤◌, ℕ, ◌+◌, cond, ltb, List, [], ◌∷◌, ◌++◌, length, refl, sym, ap, subst, ◌∙◌, arith, append-nil, Some}
+use Rattle.std.specs.Prelude.{slice_get, slice_set}
 use Rattle.std.proofs.lemmas.Bool.{eq-eqb, ne_eqb}
 use Rattle.std.proofs.lemmas.List.{length-append, length-set}
 use Rattle.apei_base.specs.Firmware.{Seen}
@@ -9,14 +9,14 @@ use Rattle.ghes_call.specs.Receive.{ReceiveSeen, IsOfSource}
 use Rattle.ghes_call.specs.declared.call.Call.{Call}
 use Rattle.ghes_ledger.proofs.StepLemmas.{raise_line, lawful_raise}
 use Rattle.ghes_ledger.proofs.WorkLemmas.{takings}
-use Rattle.ghes_ledger.specs.Asks.{Note, Setting, Clock, Fail, Peek, Asks, Quiet, Makes, Injects, Drains, Ends}
-use Rattle.ghes_ledger.specs.History.{Made, Executed, calls_in, taken_in, clock_by, clock_after, fails_by}
-use Rattle.ghes_ledger.specs.Kept.{Kept, mark_of}
+use Rattle.ghes_ledger.specs.Asks.{Note, Setting, Clock, Fail, Peek, Asks, Quiet, Injects, Drains, Ends}
+use Rattle.ghes_ledger.specs.History.{Executed, calls_in, taken_in, clock_by, clock_after, fails_by}
+use Rattle.ghes_ledger.specs.Kept.{mark_of}
 use Rattle.ghes_ledger.specs.Lawful.{written_to, peeked, MadeAtEnd, IsLawfulLine}
 use Rattle.ghes_ledger.specs.Names.{fatal_names, panic_names, fatals}
 use Rattle.ghes_ledger.specs.Plan.{Plan}
 use Rattle.ghes_ledger.specs.Queue.{blocks_of, queue, acknowledged, stuck_calls, faulty_calls, fails_in}
-use Rattle.ghes_ledger.specs.Reports.{reports_in, reports_at}
+use Rattle.ghes_ledger.specs.Reports.{reports_at}
 use Rattle.ghes_ledger.specs.declared.ledger.InjectionEnd.{InjectionEnd}
 use Rattle.ghes_ledger.specs.declared.ledger.InjectionEnd.TheVariants.{Made as InjectionMade, NotAvailable, Busy, Status, Trigger, NoAddress}
 use Rattle.ghes_nmi.specs.Receive.{receive_seen}
@@ -28,7 +28,7 @@ use Rattle.fw_port.specs.Port.{raised}
 use Rattle.ghes_lines.specs.Port.{IsPlanned}
 use Rattle.ghes_lines.specs.declared.machine.Machine.{Machine}
 use Rattle.ghes_lines.specs.declared.machine.Source.{Source}
-use Rattle.ghes_lines.proofs.LineLemmas.{at_set, few_of, account_still, account_work, account_end, quiet_line, lawful_quiet, taking_line, kept_with, drained_is, tells_more, by_source_none}
+use Rattle.ghes_lines.proofs.LineLemmas.{at_set, few_of, account_still, account_work, account_end, quiet_line, lawful_quiet, taking_line, drained_is, tells_more, by_source_none}
 
 -- the same calls, told otherwise
 pub tied_with : (plan : Plan) (receive : ReceiveSeen) (s : ℕ) (made made' : List (List ℕ)) (past past' : List Call) (fails fails' : ℕ) (port port' : Seen) (faults faults' : ℕ) → past' ≡ past → port'.layout ≡ port.layout → port'.made ≡ made' → port'.acknowledged ≡ port.acknowledged → port'.waits ≡ port.waits → port'.cell ≡ port.cell → port'.planned ≤ fails' → faults' ≡ faults → IsTied plan receive s made past fails port faults → IsTied plan receive s made' past' fails' port' faults'
@@ -109,8 +109,8 @@ module _ {P : Type 0} (seen : P → Seen) (faults : P → ℕ) (machine : Machin
       let old = desk.ledger in
       let is = drained_is desk.clock desk.pending.packets old in
       let same : calls_in history ++ [] ≡ calls_in history = append-nil (calls_in history) in
-      let taking : takings 0 desk.clock old.reports desk.pending.packets ≡ line.taken =
-      ap (λ t. takings 0 t old.reports desk.pending.packets) f.time ∙ ap (λ xs. takings 0 (clock_after history) xs desk.pending.packets) f.tells.reports in
+      let taking : takings 4 desk.clock old.reports desk.pending.packets ≡ line.taken =
+      ap (λ t. takings 4 t old.reports desk.pending.packets) f.time ∙ ap (λ xs. takings 4 (clock_after history) xs desk.pending.packets) f.tells.reports in
       let A : _ → Type 0 = λ panic. IsAccount plan (line ∷ history) [] panic in
       record {
         as_many = f.as_many;
@@ -119,7 +119,7 @@ module _ {P : Type 0} (seen : P → Seen) (faults : P → ℕ) (machine : Machin
         tells = tells_more plan history line old (marked number (worked desk)).ledger f.tells
             (ap (λ k. k.calls) is ∙ sym (append-nil old.calls) ∙ ap (λ xs. old.calls ++ xs) (sym (by_source_none plan)))
             (ap (λ k. k.taken) is ∙ ap (λ xs. old.taken ++ xs) taking)
-            (ap (λ k. k.reports) is ∙ ap (λ t. old.reports ++ reports_at t (takings 0 desk.clock old.reports desk.pending.packets)) f.time ∙ ap (λ xs. old.reports ++ reports_at (clock_after history) xs) taking)
+            (ap (λ k. k.reports) is ∙ ap (λ t. old.reports ++ reports_at t (takings 4 desk.clock old.reports desk.pending.packets)) f.time ∙ ap (λ xs. old.reports ++ reports_at (clock_after history) xs) taking)
             (ap (λ k. k.injections) is ∙ sym (append-nil old.injections))
             (ap (λ k. k.peeks) is ∙ sym (append-nil old.peeks))
             (ap (λ k. k.marks ++ mark_of number (drained desk.clock desk.pending.packets old) ∷ []) is);

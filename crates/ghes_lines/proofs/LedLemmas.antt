@@ -1,17 +1,16 @@
 -- What holds of the sources and the memories of a machine to which a history leads.
-use Rattle.std.proofs.Common.{◌≡◌, ◌≤◌, ◌<◌, ℕ, zero, suc, ◌+◌, ◌-◌, ◌^◌, Bool, true, false, cond, eqb, ◌⊎◌, inl, inr, List, [], ◌∷◌, ◌++◌, length, refl, sym, ap, subst, ◌∙◌, arith, Option, Some, None}
-use Rattle.std.specs.Prelude.{slice_get, unwrap_or, is_some, IsTrue}
+use Rattle.std.proofs.Common.{◌≡◌, ◌≤◌, ◌<◌, ℕ, zero, suc, ◌+◌, ◌-◌, ◌^◌, Bool, true, false, cond, eqb, inl, inr, List, [], ◌∷◌, ◌++◌, length, ap, subst, arith, Some}
+use Rattle.std.specs.Prelude.{slice_get, unwrap_or}
 use Rattle.std.specs.List.{AllByRecursion}
 use Rattle.std.proofs.lemmas.List.{length-append}
 use Rattle.std.proofs.lemmas.Option.{slice_get_cases}
 use Rattle.apei_base.specs.Firmware.{Seen}
-use Rattle.ghes_call.specs.Receive.{IsOfSource, register_of}
+use Rattle.ghes_call.specs.Receive.{IsOfSource}
 use Rattle.ghes_ledger.specs.History.{Made, Executed}
 use Rattle.ghes_ledger.specs.Queue.{blocks_of, queue}
-use Rattle.ghes_nmi.specs.Receive.{receive_seen, ack_seen}
+use Rattle.ghes_nmi.specs.Receive.{receive_seen}
 use Rattle.ghes_lines.specs.Desk.{DeskSeen}
 use Rattle.ghes_lines.specs.Follows.{blocks_in, Follows}
-use Rattle.ghes_lines.specs.Machine.{IsMachine, FitsSource, rule_of}
 use Rattle.ghes_lines.specs.declared.machine.Machine.{Machine}
 use Rattle.ghes_lines.specs.declared.machine.Source.{Source}
 

@@ -1,4 +1,5 @@
 mod AnswerLemmas
+mod CacheLemmas
 mod ExecLemmas
 mod FollowsLemmas
 mod FoundLemmas
@@ -8,6 +9,7 @@ mod MidwayLemmas
 mod NmiFollows
 mod NmiLemmas
 mod OutcomeLemmas
+mod RoomLemmas
 mod RunFollows
 mod RunningLemmas
 mod ScriptLemmas

@@ -1,9 +1,9 @@
 -- What holds behind a line without calls, and lists that one more line makes longer.
-use Rattle.std.proofs.Common.{◌≡◌, ◌≢◌, ◌≤◌, ◌<◌, ℕ, zero, suc, ◌+◌, Bool, true, false, cond, eqb, ◌⊎◌, inl, inr, List, [], ◌∷◌, ◌++◌, map, length, refl, sym, ap, subst, ◌∙◌, arith, append-nil, append_assoc, Option, Some, None, get_or}
+use Rattle.std.proofs.Common.{◌≡◌, ◌≢◌, ◌≤◌, ◌<◌, ℕ, zero, suc, ◌+◌, Bool, true, false, cond, eqb, inl, inr, List, [], ◌∷◌, ◌++◌, map, length, refl, sym, ap, subst, ◌∙◌, arith, append-nil, append_assoc, Some, get_or}
 use Rattle.std.specs.Prelude.{slice_get, slice_set}
 use Rattle.std.specs.List.{range_with_len, flat_map, AllByRecursion}
 use Rattle.std.proofs.lemmas.Bool.{eqb-true, eq-eqb, ne_eqb, cases_eq}
-use Rattle.std.proofs.lemmas.List.{length-append, length-set, get_or-set_same, get_or-set_other, map-append}
+use Rattle.std.proofs.lemmas.List.{length-set, get_or-set_same, get_or-set_other, map-append}
 use Rattle.std.proofs.lemmas.Option.{slice_get_within, get_or_from_slice_get, slice_get-get_or}
 use Rattle.ghes_call.specs.Packet.{PacketSeen}
 use Rattle.ghes_call.specs.declared.call.Call.{Call}
@@ -13,7 +13,7 @@ use Rattle.ghes_ledger.proofs.WorkLemmas.{takings, names-takings, images-takings
 use Rattle.ghes_ledger.specs.Asks.{Note, Asks, Quiet, Drains, Ends}
 use Rattle.ghes_ledger.specs.History.{Executed, calls_in, taken_in, on_source, kept_calls, by_source, marks_in, clock_after, Each}
 use Rattle.ghes_ledger.specs.Kept.{Kept, with_taken, taken_of, told_as, report_at, mark_of}
-use Rattle.ghes_ledger.specs.Lawful.{IsImageIn, IsLawfulLine, Tells, Takes, TakesAll, peeked}
+use Rattle.ghes_ledger.specs.Lawful.{IsImageIn, IsLawfulLine, Tells, TakesAll, peeked}
 use Rattle.ghes_ledger.specs.Names.{panic_packet, name_of, queued_names, fatal_names, taken_names, panic_names, waiting, served_by}
 use Rattle.ghes_ledger.specs.Plan.{Plan, all_sources}
 use Rattle.ghes_ledger.specs.Queue.{numbers_of, acknowledged, faulty_calls, fails_in}
@@ -166,15 +166,15 @@ abbrev pub kept_with : List Taken → List Report → Kept → Kept
 kept_with taken reports kept = record kept { taken = taken; reports = reports }
 
 -- the ledger with these packets taken, entry by entry and at once
-pub drained_is : (time : ℕ) (packets : List PacketSeen) (kept : Kept) → drained time packets kept ≡ kept_with (kept.taken ++ takings 0 time kept.reports packets) (kept.reports ++ reports_at time (takings 0 time kept.reports packets)) kept
+pub drained_is : (time : ℕ) (packets : List PacketSeen) (kept : Kept) → drained time packets kept ≡ kept_with (kept.taken ++ takings 4 time kept.reports packets) (kept.reports ++ reports_at time (takings 4 time kept.reports packets)) kept
 drained_is time [] kept =
     ap (λ xs. kept_with xs kept.reports kept) (sym (append-nil kept.taken))
     ∙ ap (λ xs. kept_with (kept.taken ++ []) xs kept) (sym (append-nil kept.reports))
 drained_is time (packet ∷ packets) kept =
-    let found = hit 0 kept.reports packet.bytes time in
+    let found = hit 4 kept.reports packet.bytes time in
     let entry : Taken = taken_of (told_as found (length kept.reports)) packet in
     let reports = kept.reports ++ report_at time entry in
-    let later = takings 0 time reports packets in
+    let later = takings 4 time reports packets in
     drained_is time packets (with_taken time found packet kept)
     ∙ ap (λ xs. kept_with xs (reports ++ reports_at time later) kept) (append_assoc kept.taken (entry ∷ []) later)
     ∙ ap (λ xs. kept_with (kept.taken ++ entry ∷ later) xs kept) (append_assoc kept.reports (report_at time entry) (reports_at time later))

@@ -1,12 +1,11 @@
 -- A line `run` goes on by one call.
-use Rattle.std.proofs.Common.{◌≡◌, ◌≤◌, ◌<◌, ℕ, ◌+◌, List, [], ◌∷◌, ◌++◌, refl, sym, ap, subst, ◌∙◌, arith, append-nil, append_assoc, Option, Some, None}
+use Rattle.std.proofs.Common.{◌≡◌, ◌≤◌, ℕ, List, [], ◌∷◌, ◌++◌, refl, sym, ap, subst, ◌∙◌, arith, append-nil, append_assoc, Option, Some, None}
 use Rattle.std.specs.Prelude.{slice_get, slice_set}
 use Rattle.apei_base.specs.Firmware.{Seen}
 use Rattle.ghes_call.specs.Packet.{PacketSeen}
 use Rattle.ghes_call.specs.Receive.{ReceiveSeen}
 use Rattle.ghes_call.specs.declared.call.Call.{Call}
 use Rattle.ghes_ledger.specs.History.{Executed, calls_in, taken_in, clock_after}
-use Rattle.ghes_ledger.specs.Plan.{Plan}
 use Rattle.ghes_ledger.specs.Queue.{queue, fails_in}
 use Rattle.ghes_ledger.specs.Reports.{reports_in}
 use Rattle.ghes_ledger.specs.Turns.{IsMadeBy}
@@ -17,7 +16,7 @@ use Rattle.ghes_lines.specs.Call.{standing_packet, queued_by}
 use Rattle.ghes_lines.specs.Follows.{Follows}
 use Rattle.ghes_lines.specs.Lines.{IsAt}
 use Rattle.ghes_lines.specs.Machine.{FitsSource, first_cell, plan_of}
-use Rattle.ghes_lines.specs.Midway.{in_order, line_by_line, stopped_reply, IsStopped, with_lists, moved_to, IsMidway, Continues, IsAmid}
+use Rattle.ghes_lines.specs.Midway.{in_order, line_by_line, stopped_reply, with_lists, moved_to, IsMidway, Continues, IsAmid}
 use Rattle.ghes_lines.specs.declared.machine.Machine.{Machine}
 use Rattle.ghes_lines.specs.declared.machine.Source.{Source}
 use Rattle.ghes_lines.proofs.NmiFollows.{source_in, follows_nmi}

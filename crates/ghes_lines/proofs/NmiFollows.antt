@@ -1,7 +1,7 @@
 -- A history and what it leads to go on by a line with one call.
-use Rattle.std.proofs.Common.{◌≡◌, ◌≤◌, ◌<◌, ℕ, ◌+◌, Bool, true, false, eqb, ◌⊎◌, inl, inr, List, [], ◌∷◌, ◌++◌, map, length, refl, sym, ap, subst, ◌∙◌, arith, append-nil, Option, Some, None, unwrap_or}
+use Rattle.std.proofs.Common.{◌≡◌, ◌≤◌, ◌<◌, ℕ, ◌+◌, Bool, true, false, ◌⊎◌, inl, inr, List, [], ◌∷◌, ◌++◌, map, length, refl, sym, ap, subst, ◌∙◌, arith, append-nil, Option, Some, None, unwrap_or}
 use Rattle.std.specs.Prelude.{slice_get, slice_set, is_some}
-use Rattle.std.proofs.lemmas.Bool.{eq-eqb, ne_eqb, cases_eq, leb-true, leb-false}
+use Rattle.std.proofs.lemmas.Bool.{ne_eqb, cases_eq, leb-true, leb-false}
 use Rattle.std.proofs.lemmas.List.{length-append, length-map, length-set}
 use Rattle.std.proofs.lemmas.List.Concat.{flat_map-append}
 use Rattle.std.proofs.lemmas.Option.{slice_get_within}
@@ -16,7 +16,7 @@ use Rattle.ghes_ledger.proofs.OrderLemmas.{same_count}
 use Rattle.ghes_ledger.proofs.Serial.{keeps_queued, keeps_other, keeps_fatal}
 use Rattle.ghes_ledger.proofs.StepLemmas.{call_line, lawful_call}
 use Rattle.ghes_ledger.specs.Asks.{Calls}
-use Rattle.ghes_ledger.specs.History.{Executed, calls_in, taken_in, clock_after}
+use Rattle.ghes_ledger.specs.History.{Executed, calls_in, taken_in}
 use Rattle.ghes_ledger.specs.Kept.{Kept, panic_entry, mark_of}
 use Rattle.ghes_ledger.specs.Lawful.{FitsBlock, FitsLook, HasRoom, IsImageIn, IsLawfulLine}
 use Rattle.ghes_ledger.specs.Names.{name_of, queued_names, fatal_names, taken_names}
@@ -27,13 +27,13 @@ use Rattle.ghes_ledger.specs.Reports.{reports_in}
 use Rattle.ghes_ledger.specs.declared.ledger.PanicEntry.{PanicEntry}
 use Rattle.ghes_nmi.specs.Receive.{receive_seen}
 use Rattle.ghes_lines.specs.Call.{standing_packet, queued_by, fatal_by}
-use Rattle.ghes_lines.specs.Desk.{DeskSeen, IsAnswered, IsNmi, marked, entered, panicked_by, with_packets}
+use Rattle.ghes_lines.specs.Desk.{DeskSeen, IsNmi, marked, entered, panicked_by, with_packets}
 use Rattle.ghes_lines.specs.Follows.{blocks_in, IsTied, IsAccount, Follows}
-use Rattle.ghes_lines.specs.Machine.{id_of, limit_of, server_of, rule_of, first_cell, cell_after, plan_of, FitsSource}
+use Rattle.ghes_lines.specs.Machine.{limit_of, server_of, rule_of, first_cell, cell_after, plan_of, FitsSource}
 use Rattle.ghes_lines.specs.Pending.{is_full}
 use Rattle.ghes_lines.specs.declared.machine.Machine.{Machine}
 use Rattle.ghes_lines.specs.declared.machine.Source.{Source}
-use Rattle.ghes_lines.proofs.AnswerLemmas.{IsFor, IsFree, Says}
+use Rattle.ghes_lines.proofs.AnswerLemmas.{IsFor, IsFree}
 use Rattle.ghes_lines.proofs.FollowsLemmas.{none_fatal, tied_with}
 use Rattle.ghes_lines.proofs.LineLemmas.{at_set, keeps_of, account_of, few_of, tells_more, by_source_one}
 use Rattle.ghes_lines.proofs.NmiLemmas.{IsSource, says, call_lawful, call_looks, call_tied, packet_image}

@@ -1,47 +1,31 @@
 -- A history and what it leads to go on by one call.
-use Rattle.std.proofs.Common.{◌≡◌, ◌≤◌, ◌<◌, ℕ, ◌+◌, ◌-◌, Bool, true, false, eqb, ◌⊎◌, inl, inr, List, [], ◌∷◌, ◌++◌, map, length, refl, sym, ap, subst, ◌∙◌, arith, append-nil, Option, Some, None, unwrap_or}
-use Rattle.std.specs.Prelude.{slice_get, slice_set, is_some}
-use Rattle.std.specs.List.{AllByRecursion}
-use Rattle.std.proofs.lemmas.Bool.{eq-eqb, ne_eqb, leb-true, leb-false}
-use Rattle.std.proofs.lemmas.List.{length-append, length-map, length-set}
-use Rattle.std.proofs.lemmas.List.Concat.{flat_map-append}
+use Rattle.std.proofs.Common.{◌≡◌, ◌≤◌, ◌<◌, ℕ, ◌+◌, ◌-◌, Bool, true, false, List, [], ◌∷◌, ◌++◌, length, refl, sym, ap, subst, ◌∙◌, arith, Option, Some, unwrap_or}
+use Rattle.std.specs.Prelude.{slice_get, is_some}
 use Rattle.std.proofs.lemmas.Option.{slice_get_within}
 use Rattle.apei_base.specs.Firmware.{Seen, standing as stands_in}
-use Rattle.cper_block.specs.Image.{image_of, image_reason, is_fatal}
-use Rattle.ghes_call.specs.Call.{outcome_of_block}
+use Rattle.cper_block.specs.Image.{image_of, image_reason}
 use Rattle.ghes_call.specs.Packet.{PacketSeen}
 use Rattle.ghes_call.specs.Receive.{ReceiveSeen}
 use Rattle.ghes_call.specs.declared.call.AckState.{AckState}
 use Rattle.ghes_call.specs.declared.call.Call.{Call}
 use Rattle.ghes_call.specs.declared.call.Outcome.{Outcome}
 use Rattle.ghes_call.specs.declared.call.Outcome.TheVariants.{Nothing, Queued, Malformed, Duplicate, Fatal, NoSlot, Fault, Stopped}
-use Rattle.ghes_call.specs.declared.call.Reply.{Reply}
-use Rattle.ghes_ledger.proofs.OrderLemmas.{same_count}
-use Rattle.ghes_ledger.proofs.Serial.{Keeps, keeps_queued, keeps_other, keeps_fatal}
-use Rattle.ghes_ledger.proofs.StepLemmas.{call_line, lawful_call, image_pushed}
-use Rattle.ghes_ledger.specs.Asks.{Calls}
+use Rattle.ghes_ledger.proofs.StepLemmas.{image_pushed}
 use Rattle.ghes_ledger.specs.History.{Executed, calls_in, taken_in, clock_after}
-use Rattle.ghes_ledger.specs.Lawful.{FitsBlock, FitsLook, HasRoom, StandsWith, IsImageIn, IsLawfulCall, IsLawfulLine}
-use Rattle.ghes_ledger.specs.Names.{name_of, queued_names, fatal_names, taken_names}
-use Rattle.ghes_ledger.specs.Outcomes.{number_of, pending_number, fatal_number}
+use Rattle.ghes_ledger.specs.Lawful.{FitsBlock, FitsLook, StandsWith, IsImageIn, IsLawfulCall}
+use Rattle.ghes_ledger.specs.Names.{queued_names}
 use Rattle.ghes_ledger.specs.Plan.{Plan}
-use Rattle.ghes_ledger.specs.Queue.{block_at, queue, acknowledged, standing, faulty_calls, fails_in}
-use Rattle.ghes_ledger.specs.Reports.{hit, reports_in}
-use Rattle.ghes_ledger.specs.declared.ledger.PanicEntry.{PanicEntry}
+use Rattle.ghes_ledger.specs.Queue.{block_at, queue, standing}
+use Rattle.ghes_ledger.specs.Reports.{hit}
 use Rattle.ghes_call.specs.declared.call.AckState.TheVariants.{NotAsked}
-use Rattle.ghes_nmi.specs.Receive.{receive_seen}
 use Rattle.ghes_nmi.specs.Steps.{CountsAck}
 use Rattle.ghes_lines.specs.Pending.{is_full}
-use Rattle.ghes_lines.specs.Call.{ack_by, standing_packet, queued_by, fatal_by}
-use Rattle.ghes_lines.specs.Desk.{DeskSeen, IsAnswered, IsNmi, marked, entered, panicked_by}
-use Rattle.ghes_lines.specs.Follows.{blocks_in, IsTied, IsAccount, Follows}
-use Rattle.ghes_lines.specs.Machine.{cell_after, plan_of}
-use Rattle.ghes_lines.specs.declared.machine.Machine.{Machine}
-use Rattle.ghes_lines.specs.declared.machine.Source.{Source}
-use Rattle.ghes_lines.proofs.AnswerLemmas.{standing_is, stands_idle, fault_or, IsFor, IsFree, Says, says_call, look_call, asked_is}
-use Rattle.ghes_lines.proofs.LineLemmas.{at_set, keeps_of, account_of, few_of, tells_more, by_source_one}
-use Rattle.ghes_lines.proofs.FollowsLemmas.{none_fatal}
-use Rattle.ghes_lines.proofs.TiedLemmas.{tied_other, tied_same, tied_cleared}
+use Rattle.ghes_lines.specs.Call.{standing_packet}
+use Rattle.ghes_lines.specs.Desk.{DeskSeen, IsAnswered}
+use Rattle.ghes_lines.specs.Follows.{IsTied}
+use Rattle.ghes_lines.specs.Machine.{cell_after}
+use Rattle.ghes_lines.proofs.AnswerLemmas.{standing_is, stands_idle, fault_or, Says, says_call, look_call, asked_is}
+use Rattle.ghes_lines.proofs.TiedLemmas.{tied_same, tied_cleared}
 
 -- what a plan says of a source
 pub record IsSource (plan : Plan) (receive : ReceiveSeen) (context first s : ℕ) : Type 0 where
@@ -51,7 +35,7 @@ pub record IsSource (plan : Plan) (receive : ReceiveSeen) (context first s : ℕ
   pub cells : (n : ℕ) → plan.cell s n ≡ cell_after receive.ack first n
   pub server : context ≡ plan.server s
   pub contexts : context < plan.contexts
-  pub places : plan.places ≡ 0
+  pub places : plan.places ≡ 4
 
 -- One call, told the lines before its line, its line, and all calls before it.
 module _ (plan : Plan) (receive : ReceiveSeen) (context first s : ℕ) (is_source : IsSource plan receive context first s) (before : List Executed) (line : Executed) (past : List Call) (fails : ℕ) (port port' : Seen) (faults faults' : ℕ) (desk desk' : DeskSeen) (fatal : Option PacketSeen) where
@@ -98,9 +82,9 @@ module _ (plan : Plan) (receive : ReceiveSeen) (context first s : ℕ) (is_sourc
   pub call_looks : (outcome : Outcome) (ack : AckState) → Tied → Answered outcome ack → FitsLook plan.places (plan.limit s) (standing s before past) desk.ledger.reports desk.clock outcome
   call_looks outcome ack t a =
       rw (is_source.limit, is_source.places)
-      (look_call 0 receive.limit (port.acknowledged + 1) desk.clock desk.ledger.reports (standing s before past) (stands_in port) _ full outcome (stands t) hits (fault_or receive.limit port _ full ack outcome a.answers)) where
-        hits : (block : List ℕ) → stands_in port ≡ Some block → hit 0 desk.ledger.reports (image_of receive.limit (unwrap_or (stands_in port) [])) desk.clock ≡ hit 0 desk.ledger.reports (image_of receive.limit block) desk.clock
-        hits block is = ap (λ o. hit 0 desk.ledger.reports (image_of receive.limit (unwrap_or o [])) desk.clock) is
+      (look_call 4 receive.limit (port.acknowledged + 1) desk.clock desk.ledger.reports (standing s before past) (stands_in port) _ full outcome (stands t) hits (fault_or receive.limit port _ full ack outcome a.answers)) where
+        hits : (block : List ℕ) → stands_in port ≡ Some block → hit 4 desk.ledger.reports (image_of receive.limit (unwrap_or (stands_in port) [])) desk.clock ≡ hit 4 desk.ledger.reports (image_of receive.limit block) desk.clock
+        hits block is = ap (λ o. hit 4 desk.ledger.reports (image_of receive.limit (unwrap_or o [])) desk.clock) is
 
   -- the block that an acknowledging call found
   idle : Tied → (Q : List ℕ → Type 0) → StandsWith Q (standing s before past) → port.waits ≡ false

@@ -1,5 +1,5 @@
 -- A history and what it leads to go on by a line `run`.
-use Rattle.std.proofs.Common.{◌≡◌, ◌≤◌, ◌<◌, ℕ, ◌+◌, Bool, true, false, cond, eqb, ltb, ◌&&◌, ◌||◌, inl, inr, List, [], ◌∷◌, ◌++◌, map, length, take, refl, sym, ap, subst, ◌∙◌, arith, append-nil, append_assoc, Option, Some, None}
+use Rattle.std.proofs.Common.{◌≡◌, ◌≤◌, ℕ, ◌+◌, Bool, true, false, cond, eqb, ltb, ◌&&◌, ◌||◌, inl, inr, List, [], ◌∷◌, ◌++◌, map, length, take, refl, sym, ap, subst, ◌∙◌, arith, append-nil, append_assoc, Option, Some, None}
 use Rattle.std.specs.Prelude.{filter, slice_get}
 use Rattle.std.specs.List.{flat_map, range_with_len, AllByRecursion}
 use Rattle.std.proofs.lemmas.Bool.{eq-eqb, ne_eqb, cases_eq}
@@ -18,10 +18,10 @@ use Rattle.ghes_call.specs.declared.call.Outcome.TheVariants.{Nothing, Queued, M
 use Rattle.ghes_call.specs.declared.call.Reply.{Reply}
 use Rattle.ghes_ledger.proofs.RunLemmas.{with_more, each_call-push, calls_push, FitsLookAt, looks_of, run_line}
 use Rattle.ghes_ledger.proofs.WorkLemmas.{takings, told-takings, images-takings}
-use Rattle.ghes_ledger.specs.Asks.{Calls, Runs}
+use Rattle.ghes_ledger.specs.Asks.{Calls}
 use Rattle.ghes_ledger.specs.History.{Executed, calls_in, taken_in, on_source, by_source, of_context, clock_after, Each, EachCall}
 use Rattle.ghes_ledger.specs.Kept.{Kept, mark_of}
-use Rattle.ghes_ledger.specs.Lawful.{IsAsked, FitsBlock, FitsSlots, FitsStop, FitsHit, FitsLook, Looks, TakesAll, IsImageIn, IsLawfulCall, IsLawfulLine, Tells}
+use Rattle.ghes_ledger.specs.Lawful.{IsAsked, FitsBlock, FitsSlots, FitsStop, FitsHit, FitsLook, Looks, TakesAll, IsImageIn, IsLawfulCall, IsLawfulLine}
 use Rattle.ghes_ledger.specs.Names.{panic_packet, name_of, queued_names, fatal_names, taken_names, panic_names, waiting, served_by}
 use Rattle.ghes_ledger.specs.Outcomes.{number_of, pending_number, fatal_number, acknowledges, is_fault, is_failed}
 use Rattle.ghes_ledger.specs.Plan.{Plan}
@@ -40,7 +40,7 @@ use Rattle.ghes_lines.specs.Midway.{in_order, line_by_line, stopped_reply, IsSto
 use Rattle.ghes_lines.specs.declared.machine.Machine.{Machine}
 use Rattle.ghes_lines.specs.declared.machine.Source.{Source}
 use Rattle.ghes_lines.proofs.FollowsLemmas.{none_fatal, tied_with}
-use Rattle.ghes_lines.proofs.LineLemmas.{few_of, names_now, kept_with, drained_is, tells_more}
+use Rattle.ghes_lines.proofs.LineLemmas.{few_of, names_now, drained_is, tells_more}
 use Rattle.ghes_lines.proofs.MidwayLemmas.{calls_line, taken_line, queue_line, clock_line, reports_line, fails_line}
 use Rattle.ghes_lines.proofs.TiedLemmas.{tied_other, tied_same}
 
@@ -349,8 +349,8 @@ module _ {P : Type 0} (seen : P → Seen) (faults : P → ℕ) (machine : Machin
       let packets = now.pending.packets in
       let old = entered_now.ledger in
       let drain_is = drained_is start.clock packets old in
-      let taking : takings 0 start.clock old.reports packets ≡ taken_now =
-      ap (λ t. takings 0 t old.reports packets) f.time ∙ ap (λ xs. takings 0 (clock_after before) xs packets) f.tells.reports in
+      let taking : takings 4 start.clock old.reports packets ≡ taken_now =
+      ap (λ t. takings 4 t old.reports packets) f.time ∙ ap (λ xs. takings 4 (clock_after before) xs packets) f.tells.reports in
       let account = account_now (lawful_now (none_fatal seen faults machine ports0 start before none f) turns) in
       let A : _ → Type 0 = λ panic. IsAccount plan (line ∷ before) [] panic in
       record {
@@ -360,7 +360,7 @@ module _ {P : Type 0} (seen : P → Seen) (faults : P → ℕ) (machine : Machin
         tells = tells_more plan before line start.ledger (marked number (worked entered_now)).ledger f.tells
             (ap (λ k. k.calls) drain_is)
             (ap (λ k. k.taken) drain_is ∙ ap (λ xs. old.taken ++ xs) taking)
-            (ap (λ k. k.reports) drain_is ∙ ap (λ t. old.reports ++ reports_at t (takings 0 start.clock old.reports packets)) f.time ∙ ap (λ xs. old.reports ++ reports_at (clock_after before) xs) taking)
+            (ap (λ k. k.reports) drain_is ∙ ap (λ t. old.reports ++ reports_at t (takings 4 start.clock old.reports packets)) f.time ∙ ap (λ xs. old.reports ++ reports_at (clock_after before) xs) taking)
             (ap (λ k. k.injections) drain_is ∙ sym (append-nil old.injections))
             (ap (λ k. k.peeks) drain_is ∙ sym (append-nil old.peeks))
             (ap (λ k. k.marks ++ mark_of number (drained start.clock packets old) ∷ []) drain_is);

@@ -1,6 +1,5 @@
 -- A run in the middle of its script, and at its end.
 use Rattle.std.proofs.Common.{◌≡◌, ◌≤◌, ◌<◌, ℕ, zero, suc, ◌+◌, Bool, true, false, not, eqb, List, [], ◌∷◌, ◌++◌, map, length, take, drop, get_or, refl, sym, ap, subst, ◌∙◌, arith, append-nil, append_assoc, Option, Some, None}
-use Rattle.std.specs.Prelude.{slice_get}
 use Rattle.std.specs.List.{AllByRecursion}
 use Rattle.std.proofs.lemmas.Bool.{false≢true, eqb-true}
 use Rattle.std.proofs.lemmas.List.{map-append, length-append, take_more, nil_from_length, take-append-drop, drop_all}
@@ -19,17 +18,16 @@ use Rattle.ghes_ledger.specs.declared.ledger.PanicEntry.{PanicEntry}
 use Rattle.ghes_script.specs.declared.line.Line.{Line}
 use Rattle.ghes_script.specs.declared.line.What.{What}
 use Rattle.ghes_script.specs.declared.line.What.TheVariants as asks
-use Rattle.ghes_lines.specs.Desk.{DeskSeen, new_desk, drained, worked, marked}
+use Rattle.ghes_lines.specs.Desk.{DeskSeen, new_desk}
 use Rattle.ghes_lines.specs.Follows.{blocks_in, Follows}
 use Rattle.ghes_lines.specs.Injector.{request_of, requests_of, injection_by, injections_in, Injections}
-use Rattle.ghes_lines.specs.Lines.{asks_of, act_of, Executes, GoesOn, InjectsBy, IsAllowed, IsLed, IsStopAt}
+use Rattle.ghes_lines.specs.Lines.{asks_of, act_of, Executes, GoesOn, InjectsBy, IsLed, IsStopAt}
 use Rattle.ghes_lines.specs.declared.injector.Injected.{Injected}
 use Rattle.ghes_lines.specs.Machine.{rule_of, first_cell, cell_after, plan_of}
 use Rattle.ghes_lines.specs.Run.{AreFresh, Leads, IsRun, IsStopOf}
 use Rattle.ghes_lines.specs.declared.error.Stop.{Stop}
 use Rattle.ghes_lines.specs.declared.error.Stop.TheVariants.{Full, OutOfMemory}
 use Rattle.ghes_lines.specs.declared.machine.Machine.{Machine}
-use Rattle.ghes_lines.specs.declared.machine.Source.{Source}
 use Rattle.ghes_lines.proofs.LineLemmas.{keeps_of}
 
 not_was_false : (b : Bool) → not b ≡ false → b ≡ true

@@ -1,24 +1,22 @@
 -- How the memory of a source and the calls so far stay tied.
-use Rattle.std.proofs.Common.{◌≡◌, ◌≤◌, ◌<◌, ℕ, zero, suc, ◌+◌, Bool, true, false, cond, eqb, ltb, ◌&&◌, ◌||◌, List, [], ◌∷◌, ◌++◌, length, refl, sym, ap, subst, ◌∙◌, arith, append-nil, Option, Some, None}
-use Rattle.std.specs.Prelude.{is_some, filter, slice_get}
+use Rattle.std.proofs.Common.{◌≡◌, ◌≤◌, ℕ, suc, ◌+◌, Bool, true, false, cond, eqb, ltb, ◌&&◌, ◌||◌, List, [], ◌∷◌, ◌++◌, length, refl, sym, ap, subst, ◌∙◌, arith, append-nil, Option, Some, None}
+use Rattle.std.specs.Prelude.{is_some, filter}
 use Rattle.std.proofs.lemmas.Bool.{ltb-false, eq-eqb}
 use Rattle.std.proofs.lemmas.List.{length-append}
 use Rattle.std.proofs.lemmas.List.Concat.{flat_map-append}
 use Rattle.std.proofs.lemmas.List.Elements.{filter-append}
-use Rattle.apei_base.specs.Firmware.{Seen, standing, cleared, ack_written}
+use Rattle.apei_base.specs.Firmware.{Seen, cleared}
 use Rattle.ghes_call.specs.Call.{ack_of, acknowledged_by}
 use Rattle.ghes_call.specs.Receive.{AckRuleSeen, ReceiveSeen, IsOfSource, register_of, acknowledgement}
 use Rattle.ghes_call.specs.declared.call.AckState.{AckState}
 use Rattle.ghes_call.specs.declared.call.AckState.TheVariants.{NotAsked, Done, Failed}
 use Rattle.ghes_call.specs.declared.call.Call.{Call}
 use Rattle.ghes_call.specs.declared.call.Outcome.{Outcome}
-use Rattle.ghes_call.specs.declared.call.Outcome.TheVariants.{Nothing, Queued, Malformed, Duplicate, Fatal, NoSlot, Fault, Stopped}
 use Rattle.ghes_ledger.specs.Lawful.{written_to}
 use Rattle.ghes_ledger.specs.Outcomes.{number_of, is_fault, is_done, is_failed}
 use Rattle.ghes_ledger.specs.Plan.{Plan}
 use Rattle.ghes_ledger.specs.Queue.{number_by, numbers_of, acknowledged, stuck_calls, faulty_calls}
 use Rattle.ghes_nmi.specs.Steps.{failure_of, CountsAck}
-use Rattle.ghes_lines.specs.Call.{left_by, ack_by, CountsCall}
 use Rattle.ghes_lines.specs.Follows.{IsTied}
 use Rattle.ghes_lines.specs.Machine.{cell_after}
 

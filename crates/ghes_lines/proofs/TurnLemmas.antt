@@ -1,6 +1,6 @@
 -- The calls of a line `run` stand by context, and those of a context are along its turns.
-use Rattle.std.proofs.Common.{◌≡◌, ◌≤◌, ◌<◌, ℕ, zero, suc, ◌+◌, ◌-◌, Bool, true, false, cond, eqb, inl, inr, List, [], ◌∷◌, ◌++◌, length, refl, sym, ap, subst, ◌∙◌, arith, append-nil, append_assoc, Option, Some, None}
-use Rattle.std.specs.Prelude.{filter, slice_get}
+use Rattle.std.proofs.Common.{◌≡◌, ◌≤◌, ◌<◌, ℕ, zero, suc, ◌+◌, ◌-◌, Bool, true, false, cond, eqb, inl, inr, List, [], ◌∷◌, ◌++◌, length, refl, sym, ap, subst, ◌∙◌, arith, append-nil, append_assoc}
+use Rattle.std.specs.Prelude.{filter}
 use Rattle.std.specs.List.{flat_map, range_with_len, AllByRecursion}
 use Rattle.std.proofs.lemmas.Bool.{eq-eqb, ne_eqb, cases_lt}
 use Rattle.std.proofs.lemmas.List.Concat.{flat_map-append}
@@ -9,12 +9,11 @@ use Rattle.ghes_call.specs.declared.call.Call.{Call}
 use Rattle.ghes_ledger.proofs.CallsAlike.{range-add}
 use Rattle.ghes_ledger.specs.History.{of_context}
 use Rattle.ghes_ledger.specs.Outcomes.{ends_turns}
-use Rattle.ghes_ledger.specs.Plan.{Plan, all_sources, served}
+use Rattle.ghes_ledger.specs.Plan.{Plan, served}
 use Rattle.ghes_ledger.specs.Turns.{turns, IfThenElse, Along, AreTurns}
 use Rattle.ghes_lines.specs.Machine.{server_of, plan_of, FitsSource, IsMachine}
 use Rattle.ghes_lines.specs.Midway.{Ahead, IsPart, Visits, MakesTurn}
 use Rattle.ghes_lines.specs.declared.machine.Machine.{Machine}
-use Rattle.ghes_lines.specs.declared.machine.Source.{Source}
 use Rattle.ghes_lines.proofs.LedLemmas.{there_is, all_at}
 
 abbrev no_calls : List Call

@@ -1,11 +1,11 @@
 -- One call of the receiver on one thread: what it answers, and what it leaves of the source's memory and of the pending packets.
-use Rattle.std.specs.Prelude.{◌≡◌, ◌<◌, ℕ, ◌+◌, Bool, true, false, List, [], ◌∷◌, ◌++◌, if◌then◌else◌, length, Option, Some, None, unwrap_or}
+use Rattle.std.specs.Prelude.{◌≡◌, ◌<◌, ℕ, ◌+◌, Bool, false, List, [], ◌∷◌, ◌++◌, if◌then◌else◌, length, Option, Some, None, unwrap_or}
 use Rattle.apei_base.specs.Firmware.{Seen, standing, standing_number, cleared}
 use Rattle.cper_block.specs.Image.{image_reason}
 use Rattle.cper_block.specs.declared.malformed.Malformed.{Malformed as Reason}
-use Rattle.ghes_call.specs.Call.{Failure, Nowhere, BeforeCleared, BehindCleared, Saw, IsCall, acknowledges, ack_of, acknowledged_by}
+use Rattle.ghes_call.specs.Call.{Failure, BeforeCleared, Saw, acknowledges, ack_of, acknowledged_by}
 use Rattle.ghes_call.specs.Packet.{PacketSeen}
-use Rattle.ghes_call.specs.Receive.{AckRuleSeen, ReceiveSeen}
+use Rattle.ghes_call.specs.Receive.{AckRuleSeen}
 use Rattle.ghes_call.specs.declared.call.AckState.{AckState}
 use Rattle.ghes_call.specs.declared.call.AckState.TheVariants.{NotAsked}
 use Rattle.ghes_call.specs.declared.call.Outcome.{Outcome}

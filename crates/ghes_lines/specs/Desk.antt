@@ -1,5 +1,5 @@
 -- What a replay has between two lines beside the memory of its sources, and what a line makes of it.
-use Rattle.std.specs.Prelude.{◌≡◌, ◌⊎◌, ℕ, ◌+◌, ◌==◌, if◌then◌else◌, List, [], ◌∷◌, ◌++◌, map, true, false, Option, Some, None}
+use Rattle.std.specs.Prelude.{◌≡◌, ℕ, ◌==◌, if◌then◌else◌, List, [], ◌∷◌, ◌++◌, map, true, false, Option, Some, None}
 use Rattle.apei_base.specs.Firmware.{Seen}
 use Rattle.ghes_call.specs.Call.{outcome_of}
 use Rattle.ghes_call.specs.Packet.{PacketSeen}
@@ -8,7 +8,6 @@ use Rattle.ghes_call.specs.declared.call.Call.{Call}
 use Rattle.ghes_call.specs.declared.call.Reply.{Reply}
 use Rattle.ghes_ledger.specs.Kept.{Kept, nothing_kept, with_taken, panic_entry, mark_of}
 use Rattle.ghes_ledger.specs.Reports.{hit}
-use Rattle.ghes_ledger.specs.declared.ledger.PanicEntry.{PanicEntry}
 use Rattle.ghes_lines.specs.Call.{left_by, ack_by, saw_by, CountsCall, standing_packet, queued_by, fatal_by}
 use Rattle.ghes_lines.specs.Found.{standing_image}
 use Rattle.ghes_lines.specs.Pending.{PendingSeen, is_full}
@@ -28,7 +27,7 @@ new_desk slots block_len = record { pending = record { packets = []; slots = slo
 -- the ledger after these packets were taken at a time, each told by a look at the reports before it
 abbrev pub drained : ℕ → List PacketSeen → Kept → Kept
 drained time [] kept = kept
-drained time (packet ∷ packets) kept = drained time packets (with_taken time (hit 0 kept.reports packet.bytes time) packet kept)
+drained time (packet ∷ packets) kept = drained time packets (with_taken time (hit 4 kept.reports packet.bytes time) packet kept)
 
 -- the ledger after these packets were entered in its panic list
 abbrev pub panicked : List PacketSeen → Kept → Kept
@@ -64,7 +63,7 @@ with_packets packets desk = record desk { pending = record desk.pending { packet
 -- One call on a source at this position, whose memory meant this before and that behind it: its reply, and what it leaves of the memory
 -- and of what is pending, are those of a call by what it saw; and the packet of a fatal block.
 pub record IsAnswered (receive : ReceiveSeen) (s : ℕ) (port port' : Seen) (faults faults' : ℕ) (desk desk' : DeskSeen) (reply : Reply) (fatal : Option PacketSeen) : Type 0 where
-  pub answers : reply.outcome ≡ outcome_of receive.limit (saw_by port (hit 0 desk.ledger.reports (standing_image receive.limit port) desk.clock) (is_full desk.pending) reply)
+  pub answers : reply.outcome ≡ outcome_of receive.limit (saw_by port (hit 4 desk.ledger.reports (standing_image receive.limit port) desk.clock) (is_full desk.pending) reply)
   pub asked : reply.ack ≡ ack_by receive.ack reply
   pub leaves : port' ≡ left_by receive.ack reply port
   pub counts : CountsCall reply.outcome reply.ack faults faults'

@@ -1,3 +1,4 @@
+pub mod Cache
 pub mod Call
 pub mod Desk
 pub mod Follows

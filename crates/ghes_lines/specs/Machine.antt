@@ -1,5 +1,5 @@
 -- What the tables and the settings of a script say of a machine, as the laws of a ledger tell it.
-use Rattle.std.specs.Prelude.{◌≤◌, ◌<◌, ℕ, zero, suc, Bool, false, List, length, slice_get, Option, Some, None, is_some}
+use Rattle.std.specs.Prelude.{◌≤◌, ◌<◌, ℕ, zero, suc, length, slice_get, Option, Some, None, is_some}
 use Rattle.std.specs.List.{AllByRecursion}
 use Rattle.ghes_call.specs.Receive.{AckRuleSeen, register_of, acknowledgement}
 use Rattle.ghes_ledger.specs.Plan.{Plan}
@@ -35,7 +35,7 @@ cell_after None cell n = cell
 cell_after (Some rule) cell zero = cell
 cell_after (Some rule) cell (suc n) = acknowledgement rule (cell_after (Some rule) cell n)
 
--- the plan of a machine; its report cache has no place
+-- the plan of a machine; its report cache has four places
 abbrev pub plan_of : Machine → Plan
 plan_of machine = record {
   sources = length machine.sources.items;
@@ -46,7 +46,7 @@ plan_of machine = record {
   cell = λ s n. cell_after (rule_of (slice_get machine.sources.items s)) (first_cell (slice_get machine.sources.items s)) n;
   contexts = machine.contexts;
   slots = machine.slots;
-  places = 0;
+  places = 4;
 }
 
 -- what holds of a source of a machine of so many contexts, whose blocks have at most so many bytes

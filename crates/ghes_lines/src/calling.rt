@@ -1,10 +1,10 @@
 //! One call of the receiver on one thread.
-ghost use Rattle.std.specs.Prelude.{◌≡◌, ◌≤◌, ◌<◌, ◌+◌, None, option_map, is_some, length, IsTrue, IfOk};
+ghost use Rattle.std.specs.Prelude.{◌≡◌, ◌≤◌, ◌<◌, ◌+◌, None, option_map, is_some, length, IsTrue, IfOk, OnErr};
 ghost use Rattle.apei_base.specs.Firmware.{standing, standing_number};
 ghost use Rattle.ghes_call.specs.Call.{outcome_of};
 ghost use Rattle.ghes_call.specs.Packet.{seen_of};
 ghost use Rattle.ghes_call.specs.Receive.{IsOfSource};
-ghost use Rattle.ghes_ledger.specs.Reports.{hit};
+ghost use Rattle.ghes_throttle.specs.Cache.{hit_of};
 ghost use Rattle.ghes_nmi.specs.Receive.{receive_seen, ack_seen};
 ghost use Rattle.ghes_lines.specs.Call.{or_fault, left_by, ack_by, saw_by, CountsCall, packet_of, standing_packet, pending_by, fatal_by, HasRoomFor};
 ghost use Rattle.ghes_lines.specs.Found.{standing_image, outcome_said, reason_said};
@@ -16,20 +16,20 @@ use crate::pending::Pending;
 use apei_base::{BusFault, Firmware};
 use cper_block::Malformed;
 use ghes_call::{AckState, Buffer, Outcome, Packet, Reply};
-use ghes_ledger::Report;
 use ghes_nmi::{Examined, Receive, acknowledge, clear};
 use ghes_steps::Steps;
+use ghes_throttle::Cache;
 use std::alloc::{AllocError, Global};
 use std::sync::ledger::Ledger;
 
-/// What one call is about: how the source is received, its position, the number of the block that may stand, the reports so far,
-/// and the time in nanoseconds.
+/// What one call is about: how the source is received, its position, the number of the block that may stand, the cache of the
+/// reports so far, and the time in nanoseconds.
 #[derive(Clone, Copy)]
 pub(crate) struct Ask<'a> {
     pub(crate) receive: &'a Receive,
     pub(crate) source: u16,
     pub(crate) seq: u32,
-    pub(crate) reports: &'a [Report],
+    pub(crate) cache: &'a Cache,
     pub(crate) time: u64,
 }
 
@@ -52,13 +52,6 @@ fn untouched(outcome: Outcome) -> Answer
         },
         fatal: None,
     }
-}
-
-/// The report that these bytes hit at a time. The report cache has no place, so that none is hit.
-pub(crate) fn look(_reports: &[Report], _bytes: &[u8], _time: u64) -> Option<u64>
-    ensures { result ≡ hit 0 _reports.now _bytes.now _time }
-{
-    None
 }
 
 // What an image calls for, by what it says, the report that it hits, and whether each slot is taken. A malformed image is not looked for
@@ -138,7 +131,7 @@ fn end_found<P: Firmware, L: Ledger>(
     requires at { found.address ≡ (P.seen port.old).layout.area }
     requires stands { IsTrue (is_some (standing (P.seen port.old))) }
     ensures outcome { IfOk result (λ answer. answer.reply.outcome ≡ or_fault answer.reply.outcome
-        (outcome_said ask.now.seq found.said (hit 0 ask.now.reports.now image.now ask.now.time) (is_full pending.old))) }
+        (outcome_said ask.now.seq found.said (hit_of ask.now.cache.now.places image.now ask.now.time) (is_full pending.old))) }
     ensures port { IfOk result (λ answer. P.seen port.new ≡ left_by (ack_seen ask.now.receive.now.ack) answer.reply (P.seen port.old)) }
     ensures ack { IfOk result (λ answer. answer.reply.ack ≡ ack_by (ack_seen ask.now.receive.now.ack) answer.reply) }
     ensures count { IfOk result (λ answer. CountsCall answer.reply.outcome answer.reply.ack (P.faults port.old) (P.faults port.new)) }
@@ -146,8 +139,9 @@ fn end_found<P: Firmware, L: Ledger>(
         (packet_of ask.now.source ask.now.seq (reason_said found.said) image.now) pending.old) }
     ensures fatal { IfOk result (λ answer. option_map seen_of answer.fatal ≡ fatal_by answer.reply.outcome
         (packet_of ask.now.source ask.now.seq (reason_said found.said) image.now)) }
+    ensures err { OnErr result (pending.new ≡ pending.old) }
 {
-    let hit = look(ask.reports, image, ask.time);
+    let hit = ask.cache.hit(image, ask.time);
     let outcome = wanted(found.said, ask.seq, hit, pending.is_full());
     if let Outcome::NoSlot = outcome {
         return Ok(untouched(Outcome::NoSlot));
@@ -182,7 +176,7 @@ pub(crate) fn call<P: Firmware, L: Ledger>(
     requires header { 20 ≤ ask.now.receive.now.limit }
     requires room { ask.now.receive.now.limit ≤ image.old.room }
     ensures outcome { IfOk result (λ answer. answer.reply.outcome ≡ outcome_of ask.now.receive.now.limit
-        (saw_by (P.seen port.old) (hit 0 ask.now.reports.now (standing_image ask.now.receive.now.limit (P.seen port.old)) ask.now.time)
+        (saw_by (P.seen port.old) (hit_of ask.now.cache.now.places (standing_image ask.now.receive.now.limit (P.seen port.old)) ask.now.time)
         (is_full pending.old) answer.reply)) }
     ensures port { IfOk result (λ answer. P.seen port.new ≡ left_by (ack_seen ask.now.receive.now.ack) answer.reply (P.seen port.old)) }
     ensures ack { IfOk result (λ answer. answer.reply.ack ≡ ack_by (ack_seen ask.now.receive.now.ack) answer.reply) }
@@ -191,6 +185,7 @@ pub(crate) fn call<P: Firmware, L: Ledger>(
         (standing_packet ask.now.source ask.now.receive.now.limit (P.seen port.old)) pending.old) }
     ensures fatal { IfOk result (λ answer. option_map seen_of answer.fatal ≡ fatal_by answer.reply.outcome
         (standing_packet ask.now.source ask.now.receive.now.limit (P.seen port.old))) }
+    ensures err { OnErr result (pending.new ≡ pending.old) }
     ensures room { image.old.room ≤ image.new.room }
 {
     match find(ask.receive, image, port, steps) {

@@ -4,16 +4,20 @@ ghost use Rattle.std.specs.List.{range_with_len};
 ghost use Rattle.ghes_call.specs.Packet.{seen_of};
 ghost use Rattle.ghes_call.specs.Receive.{IsOfSource};
 ghost use Rattle.ghes_nmi.specs.Receive.{receive_seen};
+ghost use Rattle.ghes_ledger.specs.Kept.{with_taken};
+ghost use Rattle.ghes_ledger.specs.Reports.{hit};
+ghost use Rattle.ghes_lines.specs.Cache.{Caches, AreWithin};
 ghost use Rattle.ghes_lines.specs.Desk.{new_desk, drained, panicked, worked, panicked_by, marked, entered_on, entered_by, IsAnswered, IsNmi, IsTurn};
 ghost use Rattle.ghes_lines.specs.Midway.{stopped_reply};
 
-use crate::calling::{Answer, Ask, call, look};
+use crate::calling::{Answer, Ask, call};
 use crate::machine::Source;
 use crate::pending::Pending;
 use crate::port::Port;
 use ghes_call::{AckState, Buffer, Call, Outcome, Packet, Reply};
 use ghes_ledger::{InjectionEnd, Ledger};
 use ghes_steps::Steps;
+use ghes_throttle::Cache;
 use std::alloc::{AllocError, Global};
 use std::marker::Model;
 use std::sync::ledger;
@@ -22,10 +26,11 @@ use std::sync::ledger;
 const MOST: u32 = 65_536;
 
 /// What a replay has between two lines beside the memory of its sources.
-#[derive(Debug, Drop)]
+#[derive(Drop)]
 pub struct Desk {
     pending: Pending,
     ledger: Ledger,
+    cache: Cache,
     clock: u64,
     blocks: u32,
     block_len: usize,
@@ -33,29 +38,59 @@ pub struct Desk {
 }
 
 impl Model for Desk {
-    ghost use Rattle.std.specs.Prelude.{◌≤◌};
+    ghost use Rattle.std.specs.Prelude.{◌≡◌, ◌≤◌};
+    ghost use Rattle.ghes_lines.specs.Cache.{Caches, AreWithin};
     ghost use Rattle.ghes_lines.specs.Desk.{DeskSeen};
 
     ghost Value = { DeskSeen };
 
     ghost view = { λ d. record { pending = d.pending; ledger = d.ledger; clock = d.clock; blocks = d.blocks; block_len = d.block_len } };
 
-    ghost invariant = { λ d. d.block_len ≤ d.image.room };
+    ghost invariant = { λ d. (d.block_len ≤ d.image.room) × (d.cache.block_len ≡ d.block_len) × Caches d.ledger.reports d.cache × AreWithin d.block_len d.pending.packets };
 }
 
-// Takes each of these packets at a time, the oldest first: it is delivered, or dropped where it is malformed.
+// Takes a packet at a time: it is delivered, or dropped where it is malformed. The cache gets the report that it makes.
+#[tactic(auto, using(crate::proofs::CacheLemmas::look_is))]
+fn take(
+    alloc: Global,
+    packet: &Packet,
+    time: u64,
+    ledger: &mut Ledger,
+    cache: &mut Cache,
+) -> Result<(), AllocError>
+    requires fits { length packet.now.bytes.bytes ≤ cache.old.block_len }
+    requires cache { Caches ledger.old.reports cache.old }
+    ensures ok { OnOk result (ledger.new
+        ≡ with_taken time (hit 4 ledger.old.reports packet.now.bytes.bytes time) (seen_of packet.now) ledger.old) }
+    ensures cache { Caches ledger.new.reports cache.new }
+    ensures block_len { cache.new.block_len ≡ cache.old.block_len }
+{
+    let bytes = packet.bytes.as_slice();
+    let found = cache.hit(bytes, time);
+    ledger.enter_taken(alloc, packet, found, time)?;
+    if packet.reason.is_none() && found.is_none() {
+        cache.put(bytes, time, ledger.reports().len() as u64);
+    }
+    Ok(())
+}
+
+// Takes each of these packets at a time, the oldest first.
 fn drain(
     alloc: Global,
     packets: &[Packet],
     time: u64,
     ledger: &mut Ledger,
+    cache: &mut Cache,
 ) -> Result<(), AllocError>
-    ensures { OnOk result (ledger.new ≡ drained time (map seen_of packets.now) ledger.old) }
+    requires fits { AreWithin cache.old.block_len (map seen_of packets.now) }
+    requires cache { Caches ledger.old.reports cache.old }
+    ensures ok { OnOk result (ledger.new ≡ drained time (map seen_of packets.now) ledger.old) }
+    ensures cache { Caches ledger.new.reports cache.new }
+    ensures block_len { cache.new.block_len ≡ cache.old.block_len }
 {
     let mut rest = packets;
     while let Some((packet, behind)) = rest.split_first() {
-        let found = look(ledger.reports(), packet.bytes.as_slice(), time);
-        ledger.enter_taken(alloc, packet, found, time)?;
+        take(alloc, packet, time, ledger, cache)?;
         rest = behind;
     }
     Ok(())
@@ -63,7 +98,8 @@ fn drain(
 
 // Enters each of these packets in the panic list, the oldest first.
 fn panic_rest(alloc: Global, packets: &[Packet], ledger: &mut Ledger) -> Result<(), AllocError>
-    ensures { OnOk result (ledger.new ≡ panicked (map seen_of packets.now) ledger.old) }
+    ensures ok { OnOk result (ledger.new ≡ panicked (map seen_of packets.now) ledger.old) }
+    ensures reports { ledger.new.reports ≡ ledger.old.reports }
 {
     let mut rest = packets;
     while let Some((packet, behind)) = rest.split_first() {
@@ -75,7 +111,8 @@ fn panic_rest(alloc: Global, packets: &[Packet], ledger: &mut Ledger) -> Result<
 
 // Enters those of these calls that are on the source at a position, in order.
 fn enter_on(calls: &[Call], source: usize, ledger: &mut Ledger) -> Result<(), AllocError>
-    ensures { OnOk result (ledger.new ≡ entered_on source calls.now ledger.old) }
+    ensures ok { OnOk result (ledger.new ≡ entered_on source calls.now ledger.old) }
+    ensures reports { ledger.new.reports ≡ ledger.old.reports }
 {
     let mut rest = calls;
     while let Some((call, behind)) = rest.split_first() {
@@ -89,7 +126,8 @@ fn enter_on(calls: &[Call], source: usize, ledger: &mut Ledger) -> Result<(), Al
 
 // Enters these calls on so many sources, source by source.
 fn enter_by(calls: &[Call], sources: usize, ledger: &mut Ledger) -> Result<(), AllocError>
-    ensures { OnOk result (ledger.new ≡ entered_by (range_with_len 0 sources) calls.now ledger.old) }
+    ensures ok { OnOk result (ledger.new ≡ entered_by (range_with_len 0 sources) calls.now ledger.old) }
+    ensures reports { ledger.new.reports ≡ ledger.old.reports }
 {
     let mut source = 0;
     while source < sources {
@@ -107,6 +145,7 @@ impl Desk {
         Ok(Desk {
             pending: Pending::new(alloc, slots)?,
             ledger: Ledger::new(alloc),
+            cache: Cache::new(alloc, block_len)?,
             clock: 0,
             blocks: 0,
             block_len,
@@ -125,7 +164,13 @@ impl Desk {
     pub(crate) fn work(&mut self, alloc: Global) -> Result<(), AllocError>
         ensures { OnOk result (self.new ≡ worked self.old) }
     {
-        drain(alloc, self.pending.packets(), self.clock, &mut self.ledger)?;
+        drain(
+            alloc,
+            self.pending.packets(),
+            self.clock,
+            &mut self.ledger,
+            &mut self.cache,
+        )?;
         self.pending.clear();
         Ok(())
     }
@@ -141,6 +186,7 @@ impl Desk {
     }
 
     /// One call on the source at a position, whose memory is `port`.
+    #[tactic(auto, using(crate::proofs::CacheLemmas::looked))]
     pub(crate) fn call<P: Port, L: ledger::Ledger>(
         &mut self,
         alloc: Global,
@@ -160,7 +206,7 @@ impl Desk {
             receive: &source.receive,
             source: at,
             seq: port.acknowledged() + 1,
-            reports: self.ledger.reports(),
+            cache: &self.cache,
             time: self.clock,
         };
         call(alloc, &ask, &mut self.image, &mut self.pending, port, steps)

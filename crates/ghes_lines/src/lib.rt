@@ -21,7 +21,7 @@ pub use desk::Desk;
 pub use error::Stop;
 pub use execution::execute;
 pub use injector::{Injected, Injector};
-pub use laws::a_script_asks_for_what_its_machine_allows;
+pub use laws::{a_cache_answers_by_the_laws, a_script_asks_for_what_its_machine_allows};
 pub use machine::{Machine, Source};
 pub use pending::Pending;
 pub use port::Port;

@@ -8,6 +8,9 @@ pub loop-source-preserved : goal.loop-source-preserved
 loop-source-preserved c =
     let before = c.loop-source in
     let calls = c.args.calls.now in
-    ap (entered_by (range_with_len (before.source + 1) (c.args.sources - (before.source + 1))) calls) c.in_ok-enter_on.ensures
-    ∙ ap (λ sources. entered_by sources calls before.ledger) (sym (range_step before.source c.args.sources c.loop-source-test.true))
-    ∙ before.invariant
+    record {
+      entered = ap (entered_by (range_with_len (before.source + 1) (c.args.sources - (before.source + 1))) calls) c.in_ok-enter_on.ensures.ok
+          ∙ ap (λ sources. entered_by sources calls before.ledger) (sym (range_step before.source c.args.sources c.loop-source-test.true))
+          ∙ before.invariant.entered;
+      reports = c.in_ok-enter_on.ensures.reports ∙ before.invariant.reports;
+    }

@@ -4,7 +4,11 @@ use Rattle.ghes_lines.specs.Desk.{panicked}
 use Rattle.ghes_lines.proofs.desk.panic_rest.Given as goal
 
 abbrev pub invariant-loop-packet : goal.invariant-loop-packet
-invariant-loop-packet l = panicked (map seen_of l.rest) l.ledger ≡ panicked (map seen_of l.packets) l.initial.ledger
+invariant-loop-packet l =
+    record {
+      entered : panicked (map seen_of l.rest) l.ledger ≡ panicked (map seen_of l.packets) l.initial.ledger;
+      reports : l.ledger.reports ≡ l.initial.ledger.reports;
+    }
 
 abbrev pub decreases-loop-packet : goal.decreases-loop-packet
 decreases-loop-packet l = length l.rest

@@ -1,6 +1,4 @@
 use Rattle.std.proofs.Common.{refl}
-use Rattle.ghes_ledger.specs.History.{Act}
-use Rattle.ghes_lines.specs.Desk.{marked}
 use Rattle.ghes_lines.proofs.ExecLemmas.{on_ok, goes_at}
 use Rattle.ghes_lines.proofs.FollowsLemmas.{follows_fail}
 use Rattle.ghes_lines.proofs.executing.fail.Goals as goal

@@ -1,4 +1,4 @@
-use Rattle.std.proofs.Common.{◌≡◌, ◌≤◌, ◌+◌, [], length, sym, ap, subst, ◌∙◌, arith}
+use Rattle.std.proofs.Common.{◌≡◌, ◌≤◌, [], length, sym, ap, subst, ◌∙◌, arith}
 use Rattle.ghes_lines.specs.Desk.{new_desk}
 use Rattle.ghes_lines.specs.Run.{IsRun}
 use Rattle.ghes_lines.proofs.RunningLemmas.{was_stopped, leads_none, leads_more, stops_at, ends}

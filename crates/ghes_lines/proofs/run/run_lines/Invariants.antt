@@ -1,4 +1,4 @@
-use Rattle.std.proofs.Common.{◌≡◌, ◌≤◌, ◌-◌, ℕ, length, take}
+use Rattle.std.proofs.Common.{◌≡◌, ◌≤◌, ◌-◌, length, take}
 use Rattle.ghes_lines.specs.Run.{Leads}
 use Rattle.ghes_lines.proofs.run.run_lines.Given as goal
 

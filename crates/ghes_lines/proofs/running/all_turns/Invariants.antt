@@ -1,4 +1,4 @@
-use Rattle.std.proofs.Common.{◌≡◌, List}
+use Rattle.std.proofs.Common.{◌≡◌}
 use Rattle.ghes_lines.specs.Machine.{plan_of}
 use Rattle.ghes_lines.specs.Midway.{Continues}
 use Rattle.ghes_lines.proofs.TurnLemmas.{ByContexts}

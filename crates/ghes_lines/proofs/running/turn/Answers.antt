@@ -1,4 +1,4 @@
-use Rattle.std.proofs.Common.{List, ◌++◌, refl, sym, subst, ◌∙◌, arith, false}
+use Rattle.std.proofs.Common.{◌++◌, refl, sym, subst, ◌∙◌, arith, false}
 use Rattle.ghes_ledger.specs.Plan.{served}
 use Rattle.ghes_lines.specs.Machine.{plan_of}
 use Rattle.ghes_lines.specs.Midway.{IsPart}

@@ -1,4 +1,4 @@
-use Rattle.std.proofs.Common.{◌≡◌, ◌≤◌, ℕ, List}
+use Rattle.std.proofs.Common.{◌≡◌}
 use Rattle.ghes_ledger.specs.Plan.{served}
 use Rattle.ghes_ledger.specs.Turns.{turns}
 use Rattle.ghes_lines.specs.Machine.{plan_of}
