@@ -1,5 +1,5 @@
 -- Chains of deliveries, one behind another.
-use Rattle.std.proofs.Common.{◌≡◌, ◌∙◌, List, [], ◌∷◌, ◌++◌, refl, sym, subst}
+use Rattle.std.proofs.Common.{◌≡◌, List, [], ◌∷◌, ◌++◌, refl, sym, subst}
 use Rattle.std.specs.Prelude.{Result, Ok, Err, ⊤}
 use Rattle.ghes_notify.specs.declared.handler.Verdict.{Verdict}
 use Rattle.ghes_notify.specs.declared.error.HandlerMemory.{HandlerMemory}

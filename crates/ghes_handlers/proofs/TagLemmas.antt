@@ -1,8 +1,8 @@
 -- The tags of handlers that are registered one after another.
-use Rattle.std.proofs.Common.{◌≡◌, ◌∙◌, ℕ, zero, suc, ◌+◌, List, [], ◌∷◌, ◌++◌, length, refl, sym, ap, arith, length-append}
+use Rattle.std.proofs.Common.{◌≡◌, ◌∙◌, ℕ, zero, suc, ◌+◌, List, [], ◌∷◌, ◌++◌, length, ap, arith, length-append}
 use Rattle.std.specs.Prelude.{pos}
 use Rattle.ghes_notify.specs.declared.order.Tag.{Tag}
-use Rattle.ghes_notify.specs.Chain.{Registered, registered}
+use Rattle.ghes_notify.specs.Chain.{registered}
 use Rattle.ghes_handlers.specs.Registering.{tags_from, chain_of}
 
 tags_push : (first count : ℕ) → tags_from first (suc count) ≡ tags_from first count ++ (record { id = first + count; priority = pos 0 }) ∷ []

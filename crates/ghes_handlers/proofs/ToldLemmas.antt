@@ -7,7 +7,7 @@ use Rattle.ghes_notify.specs.declared.handler.Verdict.TheVariants.{Go, Stop, NoM
 use Rattle.ghes_notify.specs.declared.error.HandlerMemory.{HandlerMemory}
 use Rattle.ghes_notify.specs.declared.order.Rank.{Rank}
 use Rattle.ghes_notify.specs.declared.order.Tag.{Tag}
-use Rattle.ghes_notify.specs.Delivery.{Delivery, Delivers, IsGiven, MatchVerdict, StandsOn, memory_of}
+use Rattle.ghes_notify.specs.Delivery.{Delivery, Delivers, MatchVerdict, StandsOn, memory_of}
 use Rattle.ghes_notify.specs.Order.{call_order}
 use Rattle.ghes_handlers.specs.Told.{DeliversAlong, AreDelivered, AreTold, StandsBehind, goes_on, goes_at, is_told, given_to}
 use Rattle.ghes_handlers.proofs.Apart.{IsAbsent, AreApart, call_order_apart}

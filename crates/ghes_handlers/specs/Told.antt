@@ -1,5 +1,5 @@
 -- Deliveries along one chain of the values of all handlers together, and what each handler was told.
-use Rattle.std.specs.Prelude.{ℕ, ◌≡◌, ◌==◌, ◌&&◌, ◌||◌, if◌then◌else◌, Bool, true, false, List, [], ◌∷◌, ◌++◌, length, slice_get, Option, Some, None, Result, Ok, Err, ⊤}
+use Rattle.std.specs.Prelude.{ℕ, ◌≡◌, ◌==◌, if◌then◌else◌, Bool, true, false, List, [], ◌∷◌, ◌++◌, length, slice_get, Option, Some, None, Result, Ok, Err, ⊤}
 use Rattle.ghes_notify.specs.declared.handler.Verdict.TheVariants.{the_data as Verdict, Go, Stop, NoMemory}
 use Rattle.ghes_notify.specs.declared.error.HandlerMemory.{HandlerMemory}
 use Rattle.ghes_notify.specs.declared.order.Rank.{Rank}

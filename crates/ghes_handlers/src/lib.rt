@@ -11,6 +11,8 @@ mod closing;
 mod counter;
 mod registering;
 mod telling;
+#[cfg(test)]
+mod tests;
 
 pub use closing::closings;
 pub use counter::SeverityCounter;

@@ -15,17 +15,17 @@ fn tell<H: Handler>(chain: &mut NotifierChain<H>, entry: &Taken) -> Result<(), H
 {
     match entry {
         Taken::Delivered {
-            source, seq, bytes, ..
+            source,
+            seq,
+            bytes,
+            ..
         } => chain.call(*source, *seq, bytes.as_slice()),
         Taken::Dropped { .. } => Ok(()),
     }
 }
 
 // Tells the handlers of the deliveries among taken blocks, in order.
-fn tell_each<H: Handler>(
-    chain: &mut NotifierChain<H>,
-    taken: &[Taken],
-) -> Result<(), HandlerMemory>
+fn tell_each<H: Handler>(chain: &mut NotifierChain<H>, taken: &[Taken]) -> Result<(), HandlerMemory>
     ensures told { AreDelivered H.stands H.answers (call_order chain.old.tags) (deliveries_of taken.now) chain.old.handlers chain.new.handlers result }
     ensures kept { chain.new ≡ delivered chain.old chain.new.handlers }
 {

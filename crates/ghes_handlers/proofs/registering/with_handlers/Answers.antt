@@ -1,6 +1,6 @@
-use Rattle.std.proofs.Common.{◌≡◌, ◌∙◌, ◌≤◌, ◌<◌, ◌+◌, ℕ, List, [], ◌∷◌, ◌++◌, length, get_or, sym, ap, refl, arith, append_assoc, length-append, vec_len, vec_capacity}
+use Rattle.std.proofs.Common.{◌≡◌, ◌∙◌, ◌<◌, ◌+◌, List, [], ◌∷◌, ◌++◌, length, get_or, sym, ap, arith, append_assoc, length-append}
 use Rattle.std.specs.Prelude.{pos, remove}
-use Rattle.ghes_notify.specs.Chain.{Registered, registered}
+use Rattle.ghes_notify.specs.Chain.{registered}
 use Rattle.ghes_handlers.specs.Registering.{chain_of}
 use Rattle.ghes_handlers.proofs.TagLemmas.{chain_push}
 use Rattle.ghes_handlers.proofs.registering.with_handlers.Goals as goal

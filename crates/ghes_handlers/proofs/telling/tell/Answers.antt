@@ -1,4 +1,4 @@
-use Rattle.std.proofs.Common.{◌≡◌, ◌∙◌, ℕ, List, [], ◌∷◌, sym, ap, subst}
+use Rattle.std.proofs.Common.{◌∙◌, ℕ, List, [], ◌∷◌, sym, ap, subst}
 use Rattle.ghes_notify.specs.Delivery.{Delivery, delivery_of}
 use Rattle.ghes_notify.specs.Order.{call_order}
 use Rattle.ghes_handlers.specs.Deliveries.{deliveries_by}

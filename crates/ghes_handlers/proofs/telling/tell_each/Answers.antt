@@ -1,7 +1,7 @@
-use Rattle.std.proofs.Common.{◌≡◌, ◌∙◌, ℕ, List, [], ◌∷◌, ◌++◌, sym, ap, subst}
+use Rattle.std.proofs.Common.{◌∙◌, List, sym, ap, subst}
 use Rattle.std.specs.Prelude.{Ok}
 use Rattle.ghes_notify.specs.declared.order.Tag.{Tag}
-use Rattle.ghes_notify.specs.Chain.{Registered, delivered}
+use Rattle.ghes_notify.specs.Chain.{delivered}
 use Rattle.ghes_notify.specs.Order.{call_order}
 use Rattle.ghes_ledger.specs.declared.ledger.Taken.{Taken}
 use Rattle.ghes_handlers.specs.Deliveries.{deliveries_by, deliveries_of}

@@ -1,6 +1,4 @@
-use Rattle.std.proofs.Common.{◌≡◌, List, length}
-use Rattle.std.specs.Prelude.{Result, ⊤}
-use Rattle.ghes_notify.specs.declared.error.HandlerMemory.{HandlerMemory}
+use Rattle.std.proofs.Common.{◌≡◌, length}
 use Rattle.ghes_notify.specs.Chain.{delivered}
 use Rattle.ghes_notify.specs.Order.{call_order}
 use Rattle.ghes_handlers.specs.Deliveries.{deliveries_of}
