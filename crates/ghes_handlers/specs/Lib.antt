@@ -1,0 +1,5 @@
+pub mod Closing
+pub mod Deliveries
+pub mod Registering
+pub mod Severities
+pub mod Told
