@@ -359,6 +359,42 @@ def faults():
         yield f"{words}: {lines}", {**TABLES, "s": script(lines)}, f"replay {words} s", status, text
 
 
+def repeats():
+    """What the report cache makes of blocks with equal bytes."""
+    line = "source {}: raised {}, acknowledged {}, delivered {}, duplicate {}, dropped 0, panic 0\n"
+    last = "reports {}, repeats {}, no slot 0, fault 0\n"
+    once = "nmi 1: queued 1\n" + report(1, 1, MEMORY_BODY)
+    five = "raise 1 Z1; raise 1 Z2; raise 1 Z3; raise 1 Z4; raise 1 Z5; " + "nmi 1; " * 5 + "work; "
+    told = "".join(f"nmi 1: queued {n}\n" for n in range(1, 6)) + "".join(report(1, n) for n in range(1, 6))
+    storm = "raise 1 Z; nmi 1; work; " + "; ".join(
+        (f"clock {n // 100}000000000; " if n % 100 == 0 else "") + "raise 1 Z; nmi 1" for n in range(1, 1000))
+    for name, words, lines, text, counts, ends in [
+        ("a report that is a nanosecond younger than ten seconds", "one", "raise 1 B1; nmi 1; work; clock 9999999999; raise 1 B1; nmi 1",
+         once + "nmi 1: duplicate 2 of source 1 block 1\n", [(1, 2, 2, 1, 1)], (1, 0)),
+        ("a report of ten seconds ago", "one", "raise 1 B1; nmi 1; work; clock 10000000000; raise 1 B1; nmi 1",
+         once + "nmi 1: queued 2\n" + report(1, 2, MEMORY_BODY), [(1, 2, 2, 2, 0)], (2, 0)),
+        ("a block that was pending already when its bytes were reported", "one", "raise 1 B1; raise 1 B1; nmi 1; nmi 1; work",
+         "nmi 1: queued 1\nnmi 1: queued 2\n" + report(1, 1, MEMORY_BODY) + "repeat source 1 block 2 of source 1 block 1\n",
+         [(1, 2, 2, 2, 0)], (1, 1)),
+        ("the fifth report has the place of the first", "one", five + "raise 1 Z1; nmi 1",
+         told + "nmi 1: queued 6\n" + report(1, 6), [(1, 6, 6, 6, 0)], (6, 0)),
+        ("the second report has its place", "one", five + "raise 1 Z2; nmi 1",
+         told + "nmi 1: duplicate 6 of source 1 block 2\n", [(1, 6, 6, 5, 1)], (5, 0)),
+        ("two sources with one block", "server", "raise 8 Z; raise 9 Z; nmi 8; nmi 9",
+         "nmi 8: queued 1\nnmi 9: queued 1\n" + report(8, 1) + "repeat source 9 block 1 of source 8 block 1\n",
+         [(8, 1, 1, 1, 0), (9, 1, 1, 1, 0)], (1, 1)),
+        ("a duplicate is acknowledged and needs no slot", "one",
+         "slots 1; raise 1 Z; nmi 1; work; raise 1 Z1; nmi 1; raise 1 Z; nmi 1; nmi 1",
+         "nmi 1: queued 1\n" + report(1, 1) + "nmi 1: queued 2\nnmi 1: duplicate 3 of source 1 block 1\nnmi 1: nothing\n"
+         + report(1, 2), [(1, 3, 3, 2, 1)], (2, 0)),
+        ("a storm of a thousand equal blocks, a hundred a second", "one", storm,
+         "nmi 1: queued 1\n" + report(1, 1) + "".join(f"nmi 1: duplicate {n} of source 1 block 1\n" for n in range(2, 1001)),
+         [(1, 1000, 1000, 1, 999)], (1, 0)),
+    ]:
+        yield (name, {**TABLES, "s": script(lines)}, f"replay {words} - s", 0,
+               text + "summary\n" + "".join(line.format(*count) for count in counts) + last.format(*ends))
+
+
 def many():
     """How many blocks a machine has at most."""
     line, room = f"raise 1 {BARE}\n", "ghes: platform: 2 room\n"
@@ -513,7 +549,7 @@ def blocks():
 
 def main():
     failures = count = 0
-    for topic in [usages, listings, tables, served, machines, injections, turns, faults, many, scripts, replays, limits, rounds,
+    for topic in [usages, listings, tables, served, machines, injections, turns, faults, repeats, many, scripts, replays, limits, rounds,
                   blocks]:
         for name, files, words, status, text in topic():
             with tempfile.TemporaryDirectory() as folder:
