@@ -18,18 +18,21 @@ AreApart (r ∷ ranks) = IsAbsent r.place ranks × AreApart ranks
 abbrev AreUnder : ℕ → List Rank → Type 0
 AreUnder place ranks = AllByRecursion (λ (r : Rank). r.place < place) ranks
 
-insert_absent : (place i : ℕ) (ranks : List Rank) (r : Rank) → IsAbsent place ranks → (r.place ≡ place → ⊥) → IsAbsent place (take i ranks ++ r ∷ drop i ranks)
+insert_absent : (place i : ℕ) (ranks : List Rank) (r : Rank) → IsAbsent place ranks → (r.place ≡ place → ⊥)
+    → IsAbsent place (take i ranks ++ r ∷ drop i ranks)
 insert_absent place zero ranks r absent other = (other, absent)
 insert_absent place (suc i) [] r absent other = (other, tt)
 insert_absent place (suc i) (q ∷ ranks) r absent other = (absent.0, insert_absent place i ranks r absent.1 other)
 
-insert_apart : (i : ℕ) (ranks : List Rank) (r : Rank) → AreApart ranks → IsAbsent r.place ranks → AreApart (take i ranks ++ r ∷ drop i ranks)
+insert_apart : (i : ℕ) (ranks : List Rank) (r : Rank) → AreApart ranks → IsAbsent r.place ranks
+    → AreApart (take i ranks ++ r ∷ drop i ranks)
 insert_apart zero ranks r apart absent = (absent, apart)
 insert_apart (suc i) [] r apart absent = (tt, tt)
 insert_apart (suc i) (q ∷ ranks) r apart absent =
     (insert_absent q.place i ranks r apart.0 (λ e. absent.0 (sym e)), insert_apart i ranks r apart.1 absent.1)
 
-insert_under : (place i : ℕ) (ranks : List Rank) (r : Rank) → AreUnder place ranks → r.place < place → AreUnder place (take i ranks ++ r ∷ drop i ranks)
+insert_under : (place i : ℕ) (ranks : List Rank) (r : Rank) → AreUnder place ranks → r.place < place
+    → AreUnder place (take i ranks ++ r ∷ drop i ranks)
 insert_under place zero ranks r under less = (less, under)
 insert_under place (suc i) [] r under less = (less, tt)
 insert_under place (suc i) (q ∷ ranks) r under less = (under.0, insert_under place i ranks r under.1 less)
@@ -42,7 +45,8 @@ under_absent : (place : ℕ) (ranks : List Rank) → AreUnder place ranks → Is
 under_absent place [] under = tt
 under_absent place (r ∷ ranks) under = ((λ e. omega (arith, under.0, e)), under_absent place ranks under.1)
 
-order_apart : (place : ℕ) (ranks : List Rank) (tags : List Tag) → AreApart ranks → AreUnder place ranks → AreApart (order_after place ranks tags)
+order_apart : (place : ℕ) (ranks : List Rank) (tags : List Tag) → AreApart ranks → AreUnder place ranks
+    → AreApart (order_after place ranks tags)
 unfolding order_after
 order_apart place ranks [] apart under = apart
 order_apart place ranks (t ∷ tags) apart under =

@@ -10,10 +10,11 @@ abbrev pub MatchAnswer : Result ⊤ HandlerMemory → Type 0 → Type 0 → Type
 MatchAnswer (Ok done) go memory = go
 MatchAnswer (Err id) go memory = memory
 
--- The deliveries go one after another along these ranks, from the values of all handlers before them to those behind them, up to
--- the first in which a handler's memory ran out. The chain has the values of all handlers before each delivery that was made
--- (own choice).
-abbrev pub DeliversAlong : {H : Type 0} → (H → List Delivery → Type 0) → (H → Delivery → Verdict) → List Rank → List Delivery → List (List H) → List H → List H → Result ⊤ HandlerMemory → Type 0
+-- The deliveries go one after another along these ranks, from the values of all handlers before them to those behind
+-- them, up to the first in which a handler's memory ran out. The chain has the values of all handlers before each
+-- delivery that was made (own choice).
+abbrev pub DeliversAlong : {H : Type 0} → (H → List Delivery → Type 0) → (H → Delivery → Verdict) → List Rank
+    → List Delivery → List (List H) → List H → List H → Result ⊤ HandlerMemory → Type 0
 DeliversAlong stands answers ranks [] chain old new result = (chain ≡ []) × (new ≡ old) × (result ≡ Ok tt)
 DeliversAlong stands answers ranks (d ∷ ds) [] old new result = ⊥
 DeliversAlong {H} stands answers ranks (d ∷ ds) (values ∷ chain) old new result =
@@ -24,8 +25,10 @@ DeliversAlong {H} stands answers ranks (d ∷ ds) (values ∷ chain) old new res
     ((chain ≡ []) × (new ≡ between) × (result ≡ answer))
 
 -- there is such a chain (own choice)
-abbrev pub AreDelivered : {H : Type 0} → (H → List Delivery → Type 0) → (H → Delivery → Verdict) → List Rank → List Delivery → List H → List H → Result ⊤ HandlerMemory → Type 0
-AreDelivered {H} stands answers ranks ds old new result = (chain : List (List H)) × DeliversAlong stands answers ranks ds chain old new result
+abbrev pub AreDelivered : {H : Type 0} → (H → List Delivery → Type 0) → (H → Delivery → Verdict) → List Rank
+    → List Delivery → List H → List H → Result ⊤ HandlerMemory → Type 0
+AreDelivered {H} stands answers ranks ds old new result =
+    (chain : List (List H)) × DeliversAlong stands answers ranks ds chain old new result
 
 -- an answer lets those behind be told too (after Linux 6.1, kernel/notifier.c)
 abbrev pub goes_on : Verdict → Bool
@@ -38,8 +41,8 @@ abbrev pub goes_at : {H : Type 0} → (H → Delivery → Verdict) → Delivery 
 goes_at answers d None = false
 goes_at answers d (Some handler) = goes_on (answers handler d)
 
--- The handler at a place is told of a delivery along these ranks, where all handlers have these values before it: each one before it
--- answers Go (after Linux 6.1, kernel/notifier.c).
+-- The handler at a place is told of a delivery along these ranks, where all handlers have these values before the
+-- delivery: each one before it answers Go (after Linux 6.1, kernel/notifier.c).
 abbrev pub is_told : {H : Type 0} → (H → Delivery → Verdict) → Delivery → ℕ → List Rank → List H → Bool
 is_told answers d place [] handlers = false
 is_told answers d place (rank ∷ ranks) handlers =
@@ -48,7 +51,8 @@ is_told answers d place (rank ∷ ranks) handlers =
     else false
 
 -- the deliveries that a chain gives to the handler at a place, in order (own choice)
-abbrev pub given_to : {H : Type 0} → (H → Delivery → Verdict) → ℕ → List Rank → List Delivery → List (List H) → List Delivery
+abbrev pub given_to : {H : Type 0} → (H → Delivery → Verdict) → ℕ → List Rank → List Delivery → List (List H)
+    → List Delivery
 given_to answers place ranks [] chain = []
 given_to answers place ranks (d ∷ ds) [] = []
 given_to answers place ranks (d ∷ ds) (values ∷ chain) =
@@ -59,10 +63,12 @@ abbrev pub StandsBehind : {H : Type 0} → (H → List Delivery → Type 0) → 
 StandsBehind stands given None None = ⊤
 StandsBehind stands given (Some before) None = ⊥
 StandsBehind stands given None (Some after) = ⊥
-StandsBehind stands given (Some before) (Some after) = (list : List Delivery) → stands before list → stands after (list ++ given)
+StandsBehind stands given (Some before) (Some after) = (list : List Delivery) → stands before list
+    → stands after (list ++ given)
 
 -- Handlers were told of deliveries.
-pub record AreTold {H : Type 0} (stands : H → List Delivery → Type 0) (answers : H → Delivery → Verdict) (ranks : List Rank) (ds : List Delivery) (old new : List H) (result : Result ⊤ HandlerMemory) : Type 0 where
+pub record AreTold {H : Type 0} (stands : H → List Delivery → Type 0) (answers : H → Delivery → Verdict)
+    (ranks : List Rank) (ds : List Delivery) (old new : List H) (result : Result ⊤ HandlerMemory) : Type 0 where
   -- the values of all handlers before each delivery that was made
   pub chain : List (List H)
   -- the deliveries went along it, in order
@@ -70,4 +76,5 @@ pub record AreTold {H : Type 0} (stands : H → List Delivery → Type 0) (answe
   -- the handlers are as many as before
   pub count : length new ≡ length old
   -- each handler stands for each list that it stood for, followed by the deliveries that the chain gave to it
-  pub each : (place : ℕ) → StandsBehind stands (given_to answers place ranks ds chain) (slice_get old place) (slice_get new place)
+  pub each : (place : ℕ) → StandsBehind stands (given_to answers place ranks ds chain) (slice_get old place)
+      (slice_get new place)

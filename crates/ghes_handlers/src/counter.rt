@@ -13,7 +13,8 @@ use std::marker::Model;
 
 /// Counts the blocks that it is told of by their severity, and lets all behind it be told too.
 ///
-/// Bytes without a whole header are not counted. A count stays at 2^64 - 1 once it is there. Source: own choice.
+/// Bytes without a whole header are not counted. A count stays at 2^64 - 1 once it is there.
+/// Source of the severities: ACPI 6.5, 18.3.2.7.1; the counts: own choice.
 #[derive(Debug, Drop)]
 pub struct SeverityCounter {
     recoverable: u64,
@@ -27,7 +28,12 @@ impl Model for SeverityCounter {
 
     ghost Value = { Counted };
 
-    ghost view = { λ c. record { recoverable = c.recoverable; fatal = c.fatal; corrected = c.corrected; none = c.none } };
+    ghost view = { λ c. record {
+      recoverable = c.recoverable;
+      fatal = c.fatal;
+      corrected = c.corrected;
+      none = c.none;
+    } };
 }
 
 /// How many bytes the header of a block has.

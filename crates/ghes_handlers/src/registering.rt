@@ -1,5 +1,6 @@
 //! How the handlers of a replay are registered.
-ghost use Rattle.std.specs.Prelude.{◌≡◌, ◌≤◌, ◌<◌, ◌+◌, ◌++◌, ◌∷◌, vec_len, vec_capacity, length, IfOk, IfErr};
+ghost use Rattle.std.specs.Prelude.{◌≡◌, ◌≤◌, ◌+◌, ◌++◌, ◌∷◌};
+ghost use Rattle.std.specs.Prelude.{vec_len, vec_capacity, length, IfOk, IfErr};
 ghost use Rattle.ghes_handlers.specs.Registering.{chain_of, refused_of};
 
 use ghes_notify::{Handler, NotifierChain, RegisterError};
@@ -53,7 +54,7 @@ fn give_back<H: Handler>(
 
 /// The chain of these handlers, at most 32: they are registered in order, each with priority 0.
 ///
-/// Where memory runs out all of them come back, in their order.
+/// Where memory runs out all of them come back, in their order. Source: own choice.
 pub fn with_handlers<H: Handler>(
     alloc: Global,
     handlers: Vec<H>,

@@ -10,7 +10,8 @@ use ghes_notify::{Handler, HandlerMemory, NotifierChain};
 
 // Tells the handlers of a taken block, where it was delivered.
 fn tell<H: Handler>(chain: &mut NotifierChain<H>, entry: &Taken) -> Result<(), HandlerMemory>
-    ensures told { AreDelivered H.stands H.answers (call_order chain.old.tags) (deliveries_by entry.now) chain.old.handlers chain.new.handlers result }
+    ensures told { AreDelivered H.stands H.answers (call_order chain.old.tags)
+        (deliveries_by entry.now) chain.old.handlers chain.new.handlers result }
     ensures kept { chain.new ≡ delivered chain.old chain.new.handlers }
 {
     match entry {
@@ -26,7 +27,8 @@ fn tell<H: Handler>(chain: &mut NotifierChain<H>, entry: &Taken) -> Result<(), H
 
 // Tells the handlers of the deliveries among taken blocks, in order.
 fn tell_each<H: Handler>(chain: &mut NotifierChain<H>, taken: &[Taken]) -> Result<(), HandlerMemory>
-    ensures told { AreDelivered H.stands H.answers (call_order chain.old.tags) (deliveries_of taken.now) chain.old.handlers chain.new.handlers result }
+    ensures told { AreDelivered H.stands H.answers (call_order chain.old.tags)
+        (deliveries_of taken.now) chain.old.handlers chain.new.handlers result }
     ensures kept { chain.new ≡ delivered chain.old chain.new.handlers }
 {
     let mut rest = taken;
@@ -40,15 +42,19 @@ fn tell_each<H: Handler>(chain: &mut NotifierChain<H>, taken: &[Taken]) -> Resul
     Ok(())
 }
 
-/// Tells the handlers of the deliveries among taken blocks, in order, up to the first in which a handler's memory ran out.
+/// Tells the handlers of the deliveries among taken blocks, in order, up to the first in which a
+/// handler's memory ran out.
 ///
-/// A dropped block is no delivery. Behind `HandlerMemory` nobody is told of anything more, and what was told stands.
+/// A dropped block is no delivery. A source is told as the ledger has it: by its position among the
+/// enabled ones, from 0 on. Behind `HandlerMemory` nobody is told of anything more, and what was
+/// told stands. Source: after Linux 6.1, kernel/notifier.c; the order of deliveries: own choice.
 #[tactic(auto, using(crate::proofs::ToldLemmas::told_all))]
 pub fn tell_all<H: Handler>(
     chain: &mut NotifierChain<H>,
     taken: &[Taken],
 ) -> Result<(), HandlerMemory>
-    ensures told { AreTold H.stands H.answers (call_order chain.old.tags) (deliveries_of taken.now) chain.old.handlers chain.new.handlers result }
+    ensures told { AreTold H.stands H.answers (call_order chain.old.tags)
+        (deliveries_of taken.now) chain.old.handlers chain.new.handlers result }
     ensures kept { chain.new ≡ delivered chain.old chain.new.handlers }
 {
     tell_each(chain, taken)

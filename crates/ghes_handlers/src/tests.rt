@@ -45,7 +45,8 @@ fn three(alloc: Global) -> Result<Vec<Taken>, AllocError> {
     Ok(taken)
 }
 
-// The closing texts of handlers that were told of taken blocks, and whether a handler's memory ran out.
+// The closing texts of handlers that were told of taken blocks, and whether a handler's memory
+// ran out.
 fn told<H: Handler>(
     alloc: Global,
     handlers: Vec<H>,
@@ -80,7 +81,8 @@ fn two_counters_close_one_after_the_other(rt: HostRuntime) -> Result<(), Fail> {
     Ok(())
 }
 
-/// Answers `Go` until it was told so often, and this from then on. Its closing text is how often it was told.
+/// Answers `Go` until it was told so often, and this from then on. Its closing text is how often it
+/// was told.
 #[derive(Drop)]
 struct Ending {
     told: u8,
@@ -109,7 +111,8 @@ impl Handler for Ending {
     }
 }
 
-/// How often the first goes on and how it ends, how often the two were told of three deliveries, and whether memory ran out.
+/// How often the first goes on and how it ends, how often the two were told of three deliveries,
+/// and whether memory ran out.
 const CASES: [(u8, Verdict, [u8; 2], bool); 4] = [
     (9, Verdict::Stop, [3, 3], false),
     (0, Verdict::Stop, [3, 0], false),

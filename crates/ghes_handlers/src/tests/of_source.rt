@@ -16,11 +16,13 @@ pub(crate) struct OfSource {
 impl Handler for OfSource {
     ghost use Rattle.std.specs.Prelude.{OnOk, OnErr};
 
-    ghost stands = { λ c list. c.blocks ≡ min (count_by (λ d. d.source == c.source) list) (2 ^ 64 - 1) };
+    ghost stands = { λ c list.
+        c.blocks ≡ min (count_by (λ d. d.source == c.source) list) (2 ^ 64 - 1) };
 
     ghost answers = { λ _ _. Go };
 
-    ghost closing_text = { λ c. codes "source " ++ decimal c.source ++ codes ": " ++ decimal c.blocks ++ codes "\n" };
+    ghost closing_text = { λ c.
+        codes "source " ++ decimal c.source ++ codes ": " ++ decimal c.blocks ++ codes "\n" };
 
     fn notify(&mut self, source: u16, _seq: u32, _block: &[u8]) -> Verdict {
         if source == self.source {

@@ -15,5 +15,7 @@ returns-in-Delivered-clause-told g c =
     let old = c.args.chain.now.handlers in
     let new = c.call.new.self.handlers in
     subst (λ (ds : List Delivery). AreDelivered stands answers ranks ds old new c.call.result)
-    (ap (λ (bytes : List ℕ). delivery_of entry.source entry.seq bytes ∷ []) c.as_slice.ensures ∙ sym (ap deliveries_by entry.is))
-    (one_delivered stands answers ranks (delivery_of entry.source entry.seq c.as_slice.result.now) old new c.call.result c.call.ensures.delivery)
+    (ap (λ (bytes : List ℕ). delivery_of entry.source entry.seq bytes ∷ []) c.as_slice.ensures
+    ∙ sym (ap deliveries_by entry.is))
+    (one_delivered stands answers ranks
+    (delivery_of entry.source entry.seq c.as_slice.result.now) old new c.call.result c.call.ensures.delivery)

@@ -20,11 +20,14 @@ loop-entry-preserved g c =
     let old = c.loop-entry.chain.handlers in
     let mid = c.tell.new.chain.handlers in
     let first : AreDelivered stands answers ranks (deliveries_by entry) old mid (Ok c.in-Ok.field-0) =
-    subst (λ (tags : List Tag). AreDelivered stands answers (call_order tags) (deliveries_by entry) old mid (Ok c.in-Ok.field-0)) (ap (λ chain. chain.tags) kept) c.in-Ok.ensures.told in
+    subst (λ (tags : List Tag). AreDelivered stands answers (call_order tags) (deliveries_by entry) old mid
+    (Ok c.in-Ok.field-0)) (ap (λ chain. chain.tags) kept) c.in-Ok.ensures.told in
     record {
       kept = c.tell.ensures.kept ∙ ap (λ chain. delivered chain mid) kept;
       goes = λ new result rest.
           c.loop-entry.invariant.goes new result
-          (subst (λ (taken : List Taken). AreDelivered stands answers ranks (deliveries_of taken) old new result) (sym c.in-Some.ensures.cases.0)
-          (delivered_more stands answers ranks (deliveries_by entry) (deliveries_of tail) old mid new result first rest));
+          (subst (λ (taken : List Taken). AreDelivered stands answers ranks (deliveries_of taken) old new result)
+          (sym c.in-Some.ensures.cases.0)
+          (delivered_more stands answers ranks (deliveries_by entry)
+          (deliveries_of tail) old mid new result first rest));
     }
