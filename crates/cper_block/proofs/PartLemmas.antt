@@ -27,7 +27,7 @@ pub record IsSound (header : Header) (limit : ℕ) : Type 0 where
   pub within : block_length header ≤ limit
   pub raw_behind : (not (eqb header.raw_length 0) && ltb header.raw_offset (20 + header.length)) ≡ false
 
-sound_header : (header : Header) (limit : ℕ) → header_reason header limit ≡ None → IsSound header limit
+pub sound_header : (header : Header) (limit : ℕ) → header_reason header limit ≡ None → IsSound header limit
 sound_header header limit e =
     let first = cond_none (ltb (block_length header) 20) TooShort _ e in
     let second = cond_none (ltb limit (block_length header)) TooLong _ first.1 in

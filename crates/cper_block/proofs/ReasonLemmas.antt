@@ -103,6 +103,12 @@ header_wider header limit wider more none =
     second_row (ltb (block_length header) 20) (ltb limit (block_length header)) (ltb wider (block_length header)) TooShort TooLong _
     (λ within. le-ltb wider (block_length header) (omega (arith, more, ltb-false limit (block_length header) within))) none
 
+-- a header that a limit lets in is let in by as many bytes as it states
+pub header_at_hand : (header : Header) (limit at_hand : ℕ) → block_length header ≤ at_hand → header_reason header limit ≡ None → header_reason header at_hand ≡ None
+header_at_hand header limit at_hand within none =
+    second_row (ltb (block_length header) 20) (ltb limit (block_length header)) (ltb at_hand (block_length header)) TooShort TooLong _
+    (λ _. le-ltb at_hand (block_length header) within) none
+
 front_wider : (short : Bool) (header : Header) (limit wider : ℕ) → limit ≤ wider → cond short (Some TooShort) (header_reason header limit) ≡ None → cond short (Some TooShort) (header_reason header wider) ≡ None
 front_wider true header limit wider more none = none
 front_wider false header limit wider more none = header_wider header limit wider more none

@@ -1,5 +1,5 @@
 //! A block that is well formed: judging bytes, and the parts.
-ghost use Rattle.std.specs.Prelude.{◌≡◌, ◌<◌, ◌≤◌, ◌+◌, ◌^◌, length, IfOk, None};
+ghost use Rattle.std.specs.Prelude.{◌≡◌, ◌<◌, ◌≤◌, ◌+◌, ◌^◌, ℕ, length, IfOk, None};
 ghost use Rattle.std.specs.Result.{result_err};
 ghost use Rattle.cper_block.specs.Cut.{Walks};
 
@@ -53,7 +53,7 @@ fn walk(bytes: &[u8]) -> Result<(), Malformed>
 }
 
 impl<'a> Block<'a> {
-    ghost use Rattle.cper_block.specs.Header.{header_size, header_of, block_length};
+    ghost use Rattle.cper_block.specs.Header.{header_size, header_of, block_length, header_reason};
     ghost use Rattle.cper_block.specs.Block.{Judges, data_of, raw_of, largest_block};
     ghost use Rattle.cper_block.specs.Cut.{entries_of};
 
@@ -86,6 +86,30 @@ impl<'a> Block<'a> {
             entry_bytes,
             raw: Block::raw_at(bytes, header),
         }
+    }
+
+    // The bytes of the entries, where the header says.
+    fn data(bytes: &'a [u8], header: &Header) -> &'a [u8]
+        requires is { header.now ≡ header_of bytes.now }
+        requires entries { header_size + header.now.length ≤ length bytes.now }
+        ensures value { result.now ≡ data_of bytes.now }
+        ensures short { length result.now < 2 ^ 32 }
+    {
+        let (_header, body) = bytes.split_at(HEADER_SIZE);
+        body.split_at(header.length as usize).0
+    }
+
+    /// Judges the bytes of a block whose header is at hand and was accepted: its entries are walked, and nothing else is read.
+    ///
+    /// The answer is that of `read`, under each limit that accepts the header.
+    #[tactic(auto, using(crate::proofs::BlockLemmas::judged_entries))]
+    pub fn judge(bytes: &'a [u8], header: &Header) -> Result<(), Malformed>
+        requires is { header.now ≡ header_of bytes.now }
+        requires whole { length bytes.now ≡ block_length header.now }
+        requires entries { header_size + header.now.length ≤ length bytes.now }
+        ensures { (limit : ℕ) → header_reason header.now limit ≡ None → Judges bytes.now limit (result_err result) }
+    {
+        walk(Block::data(bytes, header))
     }
 
     /// Reads the block at the front of the bytes, which may have `limit` bytes.

@@ -3,11 +3,13 @@ use Rattle.std.proofs.Common.{◌≡◌, ◌≢◌, ◌≤◌, ◌<◌, ◌⊎�
 use Rattle.std.specs.Prelude.{replicate, option_map}
 use Rattle.std.proofs.lemmas.Bool.{cases_lt}
 use Rattle.std.proofs.lemmas.Option.{none-some}
-use Rattle.std.proofs.lemmas.List.{take-append-le, take-replicate, take_all}
+use Rattle.std.proofs.lemmas.List.{take-append-le, take-replicate, take_all, length-append, length-take, length-replicate}
 use Rattle.std.proofs.Math.Seq.{take-append-add, take-append_seam, take-add}
 use Rattle.apei_base.specs.Firmware.{shown}
 use Rattle.apei_base.specs.Number.{number_at}
+use Rattle.cper_block.specs.Header.{header_of}
 use Rattle.cper_block.specs.Image.{padded}
+use Rattle.cper_block.proofs.EntryLemmas.{number_at-append}
 
 -- a front that is at hand
 front_at_hand : (n m : ℕ) (block : List ℕ) → n ≤ length block → take n (block ++ replicate m 0) ≡ padded n block
@@ -60,3 +62,28 @@ image_held header bytes items len count n (Some block) head long size same is =
     let front : header ≡ padded 20 block = ap (λ o. unwrap_or o []) head in
     ap (λ k. take k (bytes ++ drop (length bytes) items)) (sym size) ∙ take-append_seam bytes (drop (length bytes) items)
     ∙ image_joined header bytes count block front long (is ∙ ap (λ k. header ++ shown 20 (k - 20) block) same)
+
+-- a front is so long
+padded_long : (n : ℕ) (block : List ℕ) → length (padded n block) ≡ n
+padded_long n block =
+    omega (arith, length-append (take n block) (replicate (n - length block) 0), length-take n block, length-replicate {A = ℕ} (n - length block) 0)
+
+-- the header of a front is that of its first 20 bytes
+header_padded : (n : ℕ) (block : List ℕ) → 20 ≤ n → header_of (padded n block) ≡ header_of (padded 20 block)
+header_padded n block long =
+    let rest = shown 20 (n - 20) block in
+    let size : 20 + (n - 20) ≡ n = omega (arith, long) in
+    let front : length (padded 20 block) ≡ 20 = padded_long 20 block in
+    let whole : padded 20 block ++ rest ≡ padded n block = joined_padded (n - 20) block ∙ ap (λ k. padded k block) size in
+    let same : (offset : ℕ) → offset + 4 ≤ 20 → number_at offset 4 (padded 20 block ++ rest) ≡ number_at offset 4 (padded 20 block) =
+    λ offset within. number_at-append offset 4 (padded 20 block) rest (omega (arith, front, within)) in
+    let parts : header_of (padded 20 block ++ rest) ≡ header_of (padded 20 block) =
+    cc (same 0 (omega arith), same 4 (omega arith), same 8 (omega arith), same 12 (omega arith), same 16 (omega arith)) in
+    ap header_of (sym whole) ∙ parts
+
+-- what is held of the block that stands has the header that was read of it, and is so long
+pub header_held : (header image : List ℕ) (count : ℕ) (stands : Option (List ℕ)) → Some header ≡ option_map (padded 20) stands → 20 ≤ count → image ≡ padded count (unwrap_or stands []) → (header_of image ≡ header_of header) × (length image ≡ count)
+header_held header image count None head long is = absurd (none-some header (sym head))
+header_held header image count (Some block) head long is =
+    let front : header ≡ padded 20 block = ap (λ o. unwrap_or o []) head in
+    (ap header_of is ∙ header_padded count block long ∙ sym (ap header_of front), ap length is ∙ padded_long count block)

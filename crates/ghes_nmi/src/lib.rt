@@ -15,7 +15,7 @@ mod table;
 mod tests;
 
 pub use answering::{acknowledge, clear};
-pub use examining::{Examined, examine};
+pub use examining::{Examined, examine, examine_rest};
 pub use laws::what_is_read_is_the_image;
 pub use looking::{peek, read_header, read_rest};
 pub use receive::{AckRule, Receive};

@@ -2,6 +2,7 @@
 ghost use Rattle.std.specs.Prelude.{◌≡◌, ◌≤◌, ◌+◌, ◌-◌, ◌++◌, [], length, Some, unwrap_or, IfOk, OnOk};
 ghost use Rattle.apei_base.specs.Bus.{reach_of, CountsFaults};
 ghost use Rattle.apei_base.specs.Firmware.{status_value, standing, area_bytes};
+ghost use Rattle.cper_block.specs.Header.{header_of};
 ghost use Rattle.cper_block.specs.Image.{padded};
 ghost use Rattle.ghes_nmi.specs.Steps.{place_of, IsPlace, standing_header, accesses_behind};
 
@@ -126,6 +127,8 @@ pub fn read_rest<P: Firmware, L: Ledger>(
     requires header { Some header.now ≡ standing_header (P.seen port.old) }
     ensures value { OnOk result
         (image.new.bytes ≡ padded count (unwrap_or (standing (P.seen port.old)) [])) }
+    ensures front { OnOk result (header_of image.new.bytes ≡ header_of header.now) }
+    ensures long { OnOk result (length image.new.bytes ≡ count) }
     ensures room { image.old.room ≤ image.new.room }
     ensures kept { P.seen port.new ≡ P.seen port.old }
     ensures count { CountsFaults result (P.faults port.old) (P.faults port.new) }

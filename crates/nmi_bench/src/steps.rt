@@ -8,7 +8,7 @@ use apei_base::{BusFault, Firmware};
 use cper_block::Header;
 use ghes_call::{AckState, Buffer};
 use ghes_context::Receive;
-use ghes_nmi::{acknowledge, clear, examine, peek, read_header, read_rest};
+use ghes_nmi::{acknowledge, clear, examine_rest, peek, read_header, read_rest};
 use ghes_steps::Steps;
 use std::alloc::{AllocError, Global};
 use std::marker::Brand;
@@ -32,11 +32,12 @@ fn steps_of_a_call<P: Firmware, L: Ledger>(
     let Some(bytes) = read_header(address, memory, steps)? else {
         return Err(BusFault);
     };
-    let Ok(count) = Header::read(&bytes).check(receive.limit) else {
+    let header = Header::read(&bytes);
+    let Ok(count) = header.check(receive.limit) else {
         return Err(BusFault);
     };
     read_rest(address, &bytes, count as usize, image, memory, steps)?;
-    let _examined = examine(image.as_slice(), receive.limit);
+    let _examined = examine_rest(image.as_slice(), &header);
     clear(address, memory, steps)?;
     Ok(acknowledge(&receive.ack, memory, steps))
 }

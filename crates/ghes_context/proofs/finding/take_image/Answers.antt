@@ -5,5 +5,5 @@ use Rattle.ghes_context.proofs.finding.take_image.Goals as goal
 
 pub returns-in_ok-read_rest-in-Ok-clause-found : goal.returns-in_ok-read_rest-in-Ok-clause-found
 returns-in_ok-read_rest-in-Ok-clause-found g c =
-    let is = found_whole c.args.receive.now.limit (standing (g.P.Firmware.seen c.args.port.now)) c.args.header.now c.read_rest.new.image.bytes c.examine.result c.requires.read (search rules) (search rules) (search rules) in
+    let is = found_whole c.args.receive.now.limit (standing (g.P.Firmware.seen c.args.port.now)) c.args.header.now c.read_rest.new.image.bytes c.examine_rest.result c.requires.read (search rules) (search rules) (c.examine_rest.ensures c.args.receive.now.limit (search rules)) in
     record { stands = is.0; address = c.requires.at; image = is.1; said = is.2 }
