@@ -9,9 +9,6 @@ use cper_block::Block;
 use std::alloc::Global;
 use std::test::Fail;
 
-// A block without data, corrected.
-const BARE: &str = "0200000000000000000000000000000002000000";
-
 // A block of one memory error: its header, the entry's GUID, its severity, revision, validation, flags and length,
 // the rest of its header, and its section in three parts.
 const MEMORY: &str = "1200000000000000000000009000000002000000\
@@ -22,17 +19,40 @@ const MEMORY: &str = "1200000000000000000000009000000002000000\
     00000000000000000000000000000000000000000000000000000000000000000000000000000000\
     0200000000000000";
 
-const MEMORY_TEXT: &str = "  severity corrected
-  entry 0 memory severity corrected
-    physical address 0x0000000012345000
-    mask 0xfffffffffffff000
-    type 0x02
-";
+// The bytes of words in hexadecimal, one behind another. Behind a star stands how many a word says; zeros fill it up.
+fn bytes_of(alloc: Global, words: &str) -> Result<Vec<u8>, Fail> {
+    let mut bytes = Vec::new(alloc);
+    for word in words.split_whitespace() {
+        let (digits, length) = word.split_once('*').unwrap_or((word, "0"));
+        let mut piece = hex::decode(alloc, digits)?;
+        let length = length.parse::<usize>()?.max(piece.len());
+        piece.resize(length, 0)?;
+        bytes.extend_from_slice(&piece)?;
+    }
+    Ok(bytes)
+}
 
-// The lines of the block at the front of the bytes.
-fn lines_of(alloc: Global, bytes: &[u8]) -> Result<Vec<u8>, Fail> {
-    Block::read(bytes, 65536)?;
+// The lines of the block at the front of the bytes of words.
+fn lines_of(alloc: Global, words: &str) -> Result<Vec<u8>, Fail> {
+    let bytes = bytes_of(alloc, words)?;
+    Block::read(&bytes, 65536)?;
     let mut lines = Vec::new(alloc);
-    block_text(alloc, &mut lines, bytes)?;
+    block_text(alloc, &mut lines, &bytes)?;
     Ok(lines)
+}
+
+// How many cases are right, up to the first that is not. A case begins with a number sign and its name; then come the words of a block,
+// and its lines, of which each begins with two spaces.
+fn right(alloc: Global, cases: &str) -> Result<usize, Fail> {
+    let mut count = 0usize;
+    for case in cases.split('#') {
+        let (front, rest) = case.split_once("\n  ").unwrap_or(("", ""));
+        let (_name, words) = front.split_once('\n').unwrap_or(("", ""));
+        let wanted = format!(in alloc; "  {rest}")?;
+        if lines_of(alloc, words)?.as_slice() != wanted.as_bytes() {
+            return Ok(count);
+        }
+        count = count.saturating_add(1);
+    }
+    Ok(count)
 }

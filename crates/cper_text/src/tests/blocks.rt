@@ -1,177 +1,114 @@
 // Texts of whole blocks.
-use super::entries::{FRU_TEXT, TWO, TWO_TEXT, TWO_WITH_ALL, TWO_WITH_ALL_TEXT};
-use super::sections::{
-    MEMORY_WITH_ALL, MEMORY_WITH_ALL_TEXT, PCIE, PCIE_TEXT, PROCESSOR, PROCESSOR_TEXT, SHORT,
-    SHORT_TEXT,
-};
-use super::{BARE, MEMORY, MEMORY_TEXT, lines_of};
+use super::entries::{ENTRIES, shown};
+use super::sections::SECTIONS;
+use super::{MEMORY, bytes_of, lines_of, right};
 use crate::{drop_text, report_text};
 use cper_block::{Block, Malformed};
+use std::alloc::Global;
 use std::test::Fail;
 
-// What is tried, the front of a block, the zero bytes behind it, and its lines.
-const BLOCKS: [(&str, &str, usize, &str); 14] = [
-    ("no data", BARE, 0, "  severity corrected\n"),
-    ("bytes behind", BARE, 9, "  severity corrected\n"),
-    (
-        "severity 0",
-        "0100000000000000000000000000000000000000",
-        0,
-        "  severity recoverable\n",
-    ),
-    (
-        "severity 3",
-        "0200000000000000000000000000000003000000",
-        0,
-        "  severity none\n",
-    ),
-    (
-        "severity 4",
-        "0200000000000000000000000000000004000000",
-        0,
-        "  severity fatal\n",
-    ),
-    (
-        "raw data",
-        "0200000014000000ec0f00000000000002000000",
-        4076,
-        "  severity corrected\n  raw 4076 bytes\n",
-    ),
-    (
-        "raw data behind a gap",
-        "0200000018000000010000000000000002000000",
-        5,
-        "  severity corrected\n  raw 1 bytes\n",
-    ),
-    ("one memory error", MEMORY, 0, MEMORY_TEXT),
-    ("two revisions", TWO, 0, TWO_TEXT),
-    ("all of an entry", TWO_WITH_ALL, 0, TWO_WITH_ALL_TEXT),
-    ("a short memory section", SHORT, 0, SHORT_TEXT),
-    ("a memory section", MEMORY_WITH_ALL, 0, MEMORY_WITH_ALL_TEXT),
-    ("a processor section", PROCESSOR, 0, PROCESSOR_TEXT),
-    ("a PCIe section", PCIE, 0, PCIE_TEXT),
-];
-
-// The 20 bytes of a text, and what is printed of it.
-const TEXTS: [(&str, &str); 5] = [
-    ("0000000000000000000000000000000000000000", ""),
-    (
-        "4142434445464748494a4b4c4d4e4f5051525354",
-        "ABCDEFGHIJKLMNOPQRST",
-    ),
-    ("44494d4d00413100000000000000000000000000", "DIMM"),
-    ("1f207e7f80ff0a41000000000000000000000000", ". ~....A"),
-    ("225c226e00000000000000000000000000000000", "\"\\\"n"),
-];
+const BLOCKS: &str = "\
+no data
+0200000000000000000000000000000002000000
+  severity corrected
+# bytes behind
+0200000000000000000000000000000002000000*29
+  severity corrected
+# severity 0
+0100000000000000000000000000000000000000
+  severity recoverable
+# severity 3
+0200000000000000000000000000000003000000
+  severity none
+# severity 4
+0200000000000000000000000000000004000000
+  severity fatal
+# raw data
+0200000014000000ec0f00000000000002000000*4096
+  severity corrected
+  raw 4076 bytes
+# raw data behind a gap
+0200000018000000010000000000000002000000*25
+  severity corrected
+  raw 1 bytes
+";
 
 #[test]
 fn each_block_has_its_lines(rt: HostRuntime) -> Result<(), Fail> {
-    for (name, front, behind, text) in &BLOCKS {
-        let mut bytes = hex::decode(rt.alloc(), front)?;
-        for _ in 0..*behind {
-            bytes.push(0)?;
-        }
-        let lines = lines_of(rt.alloc(), &bytes)?;
-        assert!(rt; lines.as_slice() == text.as_bytes(), "at {name}");
-    }
-    for (digits, shown) in &TEXTS {
-        let block = format!(in rt.alloc(); "{FRU_TEXT}{digits}")?;
-        let bytes = hex::decode(rt.alloc(), block.as_str())?;
-        let lines = lines_of(rt.alloc(), &bytes)?;
-        let text = format!(in rt.alloc();
-            "  severity corrected\n  entry 0 section 00112233-4455-6677-8899-aabbccddeeff severity fatal\n    fru text \"{shown}\"\n    data empty\n"
-        )?;
-        assert!(rt; lines.as_slice() == text.as_bytes(), "at {digits}");
-    }
+    let alloc = rt.alloc();
+    let counts = [
+        right(alloc, BLOCKS)?,
+        right(alloc, ENTRIES)?,
+        right(alloc, SECTIONS)?,
+        shown(alloc)?,
+    ];
+    assert_eq!(rt; counts, [7, 2, 4, 5]);
     Ok(())
 }
 
-// Sources, numbers and blocks, and the two parts of the report.
-const REPORTS: [(u16, u32, &str, &str, &str); 3] = [
-    (
-        1,
-        1,
-        BARE,
-        "report source 1 block 1\n",
-        "  severity corrected\n",
-    ),
-    (
-        65535,
-        4_294_967_295,
-        BARE,
-        "report source 65535 block 4294967295\n",
-        "  severity corrected\n",
-    ),
-    (0, 12, MEMORY, "report source 0 block 12\n", MEMORY_TEXT),
-];
+// Appends the report of a block of these digits.
+fn report(alloc: Global, into: &mut Vec<u8>, id: u16, seq: u32, digits: &str) -> Result<(), Fail> {
+    let bytes = bytes_of(alloc, digits)?;
+    Block::read(&bytes, 65536)?;
+    Ok(report_text(alloc, into, id, seq, &bytes)?)
+}
 
-// Reasons, bytes, and how the drop of the block 2 of the source 1 ends.
-const DROPS: [(Malformed, &str, &str); 4] = [
-    (Malformed::TooShort, "", "1 too short\n  data empty\n"),
-    (
-        Malformed::TooLong,
-        "0200000014000000ed0f00000000000002000000",
-        "2 too long\n  data 0200000014000000ed0f00000000000002000000\n",
-    ),
-    (
-        Malformed::EntryTruncated(3),
-        "00ff10",
-        "5 entry 3 truncated\n  data 00ff10\n",
-    ),
-    (Malformed::Leftover, "09", "6 left over\n  data 09\n"),
-];
+// Appends the drop of a block of these digits, the block 2 of the source 1.
+fn drop(alloc: Global, into: &mut Vec<u8>, reason: Malformed, digits: &str) -> Result<(), Fail> {
+    let bytes = bytes_of(alloc, digits)?;
+    Ok(drop_text(alloc, into, 1, 2, &reason, &bytes)?)
+}
+
+const TOLD: &str = "before
+report source 65535 block 4294967295
+  severity corrected
+report source 0 block 12
+  severity corrected
+  entry 0 memory severity corrected
+    physical address 0x0000000012345000
+    mask 0xfffffffffffff000
+    type 0x02
+dropped source 1 block 2: 1 too short
+  data empty
+dropped source 1 block 2: 2 too long
+  data 0200000014000000ed0f00000000000002000000
+dropped source 1 block 2: 5 entry 3 truncated
+  data 00ff10
+dropped source 1 block 2: 6 left over
+  data 09
+";
 
 #[test]
-fn a_report_and_a_drop_stand_behind_what_was_there(rt: HostRuntime) -> Result<(), Fail> {
-    let mut text = Vec::new(rt.alloc());
-    for (id, seq, block, line, body) in &REPORTS {
-        let bytes = hex::decode(rt.alloc(), block)?;
-        Block::read(&bytes, 65536)?;
-        let before = text.len();
-        report_text(rt.alloc(), &mut text, *id, *seq, &bytes)?;
-        let whole = format!(in rt.alloc(); "{line}{body}")?;
-        assert!(rt; text.as_slice().ends_with(whole.as_bytes()), "at {id}");
-        assert_eq!(rt; text.len(), before + whole.len(), "at {id}");
-    }
-    for (reason, digits, end) in &DROPS {
-        let bytes = hex::decode(rt.alloc(), digits)?;
-        let mut into = Vec::from_slice(rt.alloc(), b"before\n")?;
-        drop_text(rt.alloc(), &mut into, 1, 2, reason, &bytes)?;
-        let whole = format!(in rt.alloc(); "before\ndropped source 1 block 2: {end}")?;
-        assert!(rt; into.as_slice() == whole.as_bytes(), "at {reason}");
-    }
+fn reports_and_drops_stand_behind_what_was_there(rt: HostRuntime) -> Result<(), Fail> {
+    let alloc = rt.alloc();
+    let mut text = Vec::from_slice(alloc, b"before\n")?;
+    let bare = "0200000000000000000000000000000002000000";
+    report(alloc, &mut text, 65535, 4_294_967_295, bare)?;
+    report(alloc, &mut text, 0, 12, MEMORY)?;
+    let long = "0200000014000000ed0f00000000000002000000";
+    drop(alloc, &mut text, Malformed::TooShort, "")?;
+    drop(alloc, &mut text, Malformed::TooLong, long)?;
+    drop(alloc, &mut text, Malformed::EntryTruncated(3), "00ff10")?;
+    drop(alloc, &mut text, Malformed::Leftover, "09")?;
+    assert!(rt; text.as_slice() == TOLD.as_bytes());
     Ok(())
 }
 
-// A front and how many zero bytes make it a large block, how long its lines are, and how they end.
-const LARGE: [(&str, usize, usize, &str); 2] = [
-    // 1,000 entries without a section.
-    (
-        "02000000000000000000000000fa000002000000",
-        64000,
-        92911,
-        "\n    data empty\n",
-    ),
-    // One entry, whose section fills the largest block.
-    (
-        "020000000000000000000000ecff000002000000\
-        000000000000000000000000000000000000000000000000acff0000",
-        65488,
-        131011,
-        "00000000\n",
-    ),
-];
+// How long the lines of a block are, where they end so.
+fn length_with(alloc: Global, words: &str, end: &str) -> Result<usize, Fail> {
+    let lines = lines_of(alloc, words)?;
+    let ends = lines.as_slice().ends_with(end.as_bytes());
+    Ok(if ends { lines.len() } else { 0 })
+}
 
 #[test]
 fn large_blocks_are_told_whole(rt: HostRuntime) -> Result<(), Fail> {
-    for (front, zeros, length, end) in &LARGE {
-        let mut bytes = hex::decode(rt.alloc(), front)?;
-        for _ in 0..*zeros {
-            bytes.push(0)?;
-        }
-        let lines = lines_of(rt.alloc(), &bytes)?;
-        assert_eq!(rt; lines.len(), *length, "at {front}");
-        assert!(rt; lines.as_slice().ends_with(end.as_bytes()), "at {front}");
-    }
+    // 1,000 entries without a section.
+    let many = "02000000000000000000000000fa000002000000*64020";
+    assert_eq!(rt; length_with(rt.alloc(), many, "\n    data empty\n")?, 92911);
+    // One entry, whose section fills the largest block.
+    let long = "020000000000000000000000ecff000002000000\
+        000000000000000000000000000000000000000000000000acff0000*65536";
+    assert_eq!(rt; length_with(rt.alloc(), long, "00000000\n")?, 131011);
     Ok(())
 }
