@@ -31,245 +31,165 @@ const IDS: [u16; 4] = [1, 2, 40, 65535];
 
 const WIDTHS: [u8; 4] = [0, 32, 8, 64];
 
-// Cases, each behind an equals sign and with a name. The lines of a case are by their marks: `>` a line of its script; `c` a call, by its
-// source, how it ended, the number of its block and its acknowledgement; `e` the end of an injection; `p` a cell that was looked at;
-// `m` a mark, by the number of its line, and how many calls and taken blocks there were behind it; `<` a line that is printed.
-const CASES: &str = "\
-each way in which a call ends; the report is of source 1, block 1
-> slots 3
-> nmi 1
-> nmi 1
-> nmi 2
-> nmi 2
-> nmi 1
-> nmi 65535
-> nmi 1
-> nmi 2
-c 0 nothing 0 .
-c 0 queued 1 .
-c 1 long 1 done
-c 1 duplicate 2 failed
-c 0 no_slot 0 .
-c 3 fault 0 .
-c 0 fatal 9 failed
-c 1 stopped 0 .
-m 1 0 0
-m 2 1 0
-m 3 2 0
-m 4 3 0
-m 5 4 0
-m 6 5 0
-m 7 6 0
-m 8 7 0
-m 9 8 0
-m 0 8 0
-< nmi 1: nothing
-< nmi 1: queued 1
-< nmi 2: malformed 1: 2 too long
-< nmi 2: duplicate 2 of source 1 block 1, ack failed
-< nmi 1: no slot
-< nmi 65535: fault
-< nmi 1: fatal 9, ack failed
-< nmi 2: stopped
-= each way in which an injection ends
-> available 0xfff
-> inject 0x8
-> inject 8 memory 1 2
-> inject 0x800
-> inject 1 processor 7
-> inject 0x40 pcie 1
-> inject 0x400
-> inject 16
-> nmi 1
-c 0 queued 1 .
-e made 0 1
-e not_available 0 0
-e busy 0 0
-e status 2 0
-e trigger 3 0
-e no_address 0 0
-e made 3 4294967295
-m 1 0 0
-m 2 0 0
-m 3 0 0
-m 4 0 0
-m 5 0 0
-m 6 0 0
-m 7 0 0
-m 8 0 0
-m 9 1 0
-m 0 1 0
-< inject 0x00000008: source 1 block 1
-< inject 0x00000008: not available
-< inject 0x00000800: busy
-< inject 0x00000001: status 2
-< inject 0x00000040: trigger 3
-< inject 0x00000400: no address
-< inject 0x00000010: source 65535 block 4294967295
-< nmi 1: queued 1
-= cells of each width, and lines that print nothing
-> ackcell 2 0xabcd00f0
-> peek 2
-> inject 0x8
-> peek 40
-> clock 5
-> peek 65535
-> fail 1 1
-> peek 2
-> raise 1 0200000000000000000000000000000002000000
-> work
-e busy 0 0
-p 00000000abcd00f1
-p 000000000000000f
-p 0123456789abcdef
-p 0000000000000000
-m 1 0 0
-m 2 0 0
-m 3 0 0
-m 4 0 0
-m 5 0 0
-m 6 0 0
-m 7 0 0
-m 8 0 0
-m 9 0 0
-m 10 0 0
-m 0 0 0
-< cell 2: 0xabcd00f1
-< inject 0x00000008: busy
-< cell 40: 0x0f
-< cell 65535: 0x0123456789abcdef
-< cell 2: 0x00000000
-= calls by turn are told by source
-> contexts 2
-> # turns
-> run 0002
-> nmi 2
-c 0 queued 1 .
-c 2 no_slot 0 .
-c 1 queued 1 done
-c 0 nothing 0 .
-c 1 fault 0 .
-c 1 nothing 0 .
-m 1 0 0
-m 3 5 0
-m 4 6 0
-m 0 6 0
-< run 2
-< nmi 1: queued 1
-< nmi 1: nothing
-< nmi 2: queued 1
-< nmi 2: fault
-< nmi 40: no slot
-< nmi 2: nothing
-= lines behind a fatal call print nothing
-> nmi 1
-> inject 0x8
-> peek 2
-> nmi 2
-c 0 fatal 3 .
-m 1 1 0
-m 0 1 0
-< nmi 1: fatal 3
-";
+// A call: its source, how it ended, and its acknowledgement.
+type Told = (u16, Outcome, AckState);
 
-// The lines of a case with a mark, without it.
-fn marked(alloc: Global, case: &str, mark: &str) -> Result<String, AllocError> {
-    let mut lines = String::new(alloc);
-    for line in case.split('\n') {
-        if let Some(rest) = line.strip_prefix(mark) {
-            lines.push_str(rest)?;
-            lines.push('\n')?;
-        }
-    }
-    Ok(lines)
-}
+// A line that was executed: its number, and how many calls and taken blocks there were behind it.
+type Line = (u32, u64, u64);
 
-fn outcome(name: &str, number: u32) -> Outcome {
-    match name {
-        "queued" => Outcome::Queued(number),
-        "short" => Outcome::Malformed(number, Malformed::TooShort),
-        "long" => Outcome::Malformed(number, Malformed::TooLong),
-        "duplicate" => Outcome::Duplicate(number, 1),
-        "fatal" => Outcome::Fatal(number),
-        "no_slot" => Outcome::NoSlot,
-        "fault" => Outcome::Fault,
-        "stopped" => Outcome::Stopped,
-        _ => Outcome::Nothing,
-    }
-}
+// A script, what came of it, and its lines.
+type Row = (
+    &'static str,
+    &'static [Told],
+    &'static [InjectionEnd],
+    &'static [u64],
+    &'static [Line],
+    &'static str,
+);
 
-fn ack(name: &str) -> AckState {
-    match name {
-        "done" => AckState::Done,
-        "failed" => AckState::Failed,
-        _ => AckState::NotAsked,
-    }
-}
+const ROWS: [Row; 5] = [
+    // Each way in which a call ends. The report is of source 1, block 1.
+    (
+        "slots 3\nnmi 1\nnmi 1\nnmi 2\nnmi 2\nnmi 1\nnmi 65535\nnmi 1\nnmi 2\n",
+        &[
+            (0, Outcome::Nothing, AckState::NotAsked),
+            (0, Outcome::Queued(1), AckState::NotAsked),
+            (1, Outcome::Malformed(1, Malformed::TooLong), AckState::Done),
+            (1, Outcome::Duplicate(2, 1), AckState::Failed),
+            (0, Outcome::NoSlot, AckState::NotAsked),
+            (3, Outcome::Fault, AckState::NotAsked),
+            (0, Outcome::Fatal(9), AckState::Failed),
+            (1, Outcome::Stopped, AckState::NotAsked),
+        ],
+        &[],
+        &[],
+        &[
+            (1, 0, 0),
+            (2, 1, 0),
+            (3, 2, 0),
+            (4, 3, 0),
+            (5, 4, 0),
+            (6, 5, 0),
+            (7, 6, 0),
+            (8, 7, 0),
+            (9, 8, 0),
+            (0, 8, 0),
+        ],
+        "nmi 1: nothing\nnmi 1: queued 1\nnmi 2: malformed 1: 2 too long\n\
+        nmi 2: duplicate 2 of source 1 block 1, ack failed\nnmi 1: no slot\nnmi 65535: fault\n\
+        nmi 1: fatal 9, ack failed\nnmi 2: stopped\n",
+    ),
+    // Each way in which an injection ends.
+    (
+        "available 0xfff\ninject 0x8\ninject 8 memory 1 2\ninject 0x800\ninject 1 processor 7\n\
+        inject 0x40 pcie 1\ninject 0x400\ninject 16\nnmi 1\n",
+        &[(0, Outcome::Queued(1), AckState::NotAsked)],
+        &[
+            InjectionEnd::Made { source: 0, seq: 1 },
+            InjectionEnd::NotAvailable,
+            InjectionEnd::Busy,
+            InjectionEnd::Status(2),
+            InjectionEnd::Trigger(3),
+            InjectionEnd::NoAddress,
+            InjectionEnd::Made {
+                source: 3,
+                seq: 4_294_967_295,
+            },
+        ],
+        &[],
+        &[
+            (1, 0, 0),
+            (2, 0, 0),
+            (3, 0, 0),
+            (4, 0, 0),
+            (5, 0, 0),
+            (6, 0, 0),
+            (7, 0, 0),
+            (8, 0, 0),
+            (9, 1, 0),
+            (0, 1, 0),
+        ],
+        "inject 0x00000008: source 1 block 1\ninject 0x00000008: not available\n\
+        inject 0x00000800: busy\ninject 0x00000001: status 2\ninject 0x00000040: trigger 3\n\
+        inject 0x00000400: no address\ninject 0x00000010: source 65535 block 4294967295\n\
+        nmi 1: queued 1\n",
+    ),
+    // Cells of each width, and lines that print nothing.
+    (
+        "ackcell 2 0xabcd00f0\npeek 2\ninject 0x8\npeek 40\nclock 5\npeek 65535\nfail 1 1\npeek 2\n\
+        raise 1 0200000000000000000000000000000002000000\nwork\n",
+        &[],
+        &[InjectionEnd::Busy],
+        &[0xabcd_00f1, 0xf, 0x0123_4567_89ab_cdef, 0],
+        &[
+            (1, 0, 0),
+            (2, 0, 0),
+            (3, 0, 0),
+            (4, 0, 0),
+            (5, 0, 0),
+            (6, 0, 0),
+            (7, 0, 0),
+            (8, 0, 0),
+            (9, 0, 0),
+            (10, 0, 0),
+            (0, 0, 0),
+        ],
+        "cell 2: 0xabcd00f1\ninject 0x00000008: busy\ncell 40: 0x0f\n\
+        cell 65535: 0x0123456789abcdef\ncell 2: 0x00000000\n",
+    ),
+    // Calls by turn are told by source.
+    (
+        "contexts 2\n# turns\nrun 0002\nnmi 2\n",
+        &[
+            (0, Outcome::Queued(1), AckState::NotAsked),
+            (2, Outcome::NoSlot, AckState::NotAsked),
+            (1, Outcome::Queued(1), AckState::Done),
+            (0, Outcome::Nothing, AckState::NotAsked),
+            (1, Outcome::Fault, AckState::NotAsked),
+            (1, Outcome::Nothing, AckState::NotAsked),
+        ],
+        &[],
+        &[],
+        &[(1, 0, 0), (3, 5, 0), (4, 6, 0), (0, 6, 0)],
+        "run 2\nnmi 1: queued 1\nnmi 1: nothing\nnmi 2: queued 1\nnmi 2: fault\n\
+        nmi 40: no slot\nnmi 2: nothing\n",
+    ),
+    // Lines behind a fatal call print nothing.
+    (
+        "nmi 1\ninject 0x8\npeek 2\nnmi 2\n",
+        &[(0, Outcome::Fatal(3), AckState::NotAsked)],
+        &[],
+        &[],
+        &[(1, 1, 0), (0, 1, 0)],
+        "nmi 1: fatal 3\n",
+    ),
+];
 
-// The calls of a case.
-fn calls(alloc: Global, case: &str) -> Result<Vec<Call>, Fail> {
+// The calls of a ledger.
+fn calls(alloc: Global, told: &[Told]) -> Result<Vec<Call>, AllocError> {
     let mut calls = Vec::new(alloc);
-    for line in marked(alloc, case, "c ")?.lines() {
-        let (source, rest) = line.split_once(' ').unwrap_or(("", ""));
-        let (name, rest) = rest.split_once(' ').unwrap_or(("", ""));
-        let (number, word) = rest.split_once(' ').unwrap_or(("", ""));
+    for (source, outcome, ack) in told {
         calls.push(Call {
             context: 0,
-            source: source.parse::<u16>()?,
+            source: *source,
             now: 0,
             reply: Reply {
-                outcome: outcome(name, number.parse::<u32>()?),
-                ack: ack(word),
+                outcome: *outcome,
+                ack: *ack,
             },
         })?;
     }
     Ok(calls)
 }
 
-fn end(name: &str, first: u8, second: u32) -> InjectionEnd {
-    match name {
-        "made" => InjectionEnd::Made {
-            source: u16::from(first),
-            seq: second,
-        },
-        "not_available" => InjectionEnd::NotAvailable,
-        "status" => InjectionEnd::Status(u64::from(first)),
-        "trigger" => InjectionEnd::Trigger(first),
-        "no_address" => InjectionEnd::NoAddress,
-        _ => InjectionEnd::Busy,
-    }
-}
-
-// The ends of the injections of a case.
-fn ends(alloc: Global, case: &str) -> Result<Vec<InjectionEnd>, Fail> {
-    let mut ends = Vec::new(alloc);
-    for line in marked(alloc, case, "e ")?.lines() {
-        let (name, rest) = line.split_once(' ').unwrap_or(("", ""));
-        let (first, second) = rest.split_once(' ').unwrap_or(("", ""));
-        ends.push(end(name, first.parse::<u8>()?, second.parse::<u32>()?))?;
-    }
-    Ok(ends)
-}
-
-// The cells of a case, which stand there in hexadecimal.
-fn cells(alloc: Global, case: &str) -> Result<Vec<u64>, Fail> {
-    let mut cells = Vec::new(alloc);
-    for line in marked(alloc, case, "p ")?.lines() {
-        cells.push(u64::from_str_radix(line, 16)?)?;
-    }
-    Ok(cells)
-}
-
-// The marks of a case.
-fn marks(alloc: Global, case: &str) -> Result<Vec<Mark>, Fail> {
+// The marks of a ledger.
+fn marks(alloc: Global, lines: &[Line]) -> Result<Vec<Mark>, AllocError> {
     let mut marks = Vec::new(alloc);
-    for line in marked(alloc, case, "m ")?.lines() {
-        let (line, rest) = line.split_once(' ').unwrap_or(("", ""));
-        let (calls, taken) = rest.split_once(' ').unwrap_or(("", ""));
+    for (line, calls, taken) in lines {
         marks.push(Mark {
-            line: line.parse::<u32>()?,
-            calls: calls.parse::<u64>()?,
-            taken: taken.parse::<u64>()?,
+            line: *line,
+            calls: *calls,
+            taken: *taken,
         })?;
     }
     Ok(marks)
@@ -295,40 +215,31 @@ fn script(alloc: Global, text: &str) -> Result<Script, Fail> {
     Ok(Script::read(alloc, text.as_bytes(), &NAMES, true)?)
 }
 
-// The lines that are printed of a case, behind some that stood before.
-fn printed(alloc: Global, case: &str) -> Result<Vec<u8>, Fail> {
+// The lines of a row.
+fn lines(alloc: Global, row: &Row) -> Result<Vec<u8>, Fail> {
+    let (text, told, ends, cells, lines, _) = *row;
     let ledger = Ledger {
-        calls: calls(alloc, case)?,
+        calls: calls(alloc, told)?,
         taken: Vec::new(alloc),
         reports: reports(alloc)?,
         panic: Vec::new(alloc),
-        injections: ends(alloc, case)?,
-        peeks: cells(alloc, case)?,
-        marks: marks(alloc, case)?,
+        injections: Vec::from_slice(alloc, ends)?,
+        peeks: Vec::from_slice(alloc, cells)?,
+        marks: marks(alloc, lines)?,
     };
-    let text = marked(alloc, case, "> ")?;
-    let script = script(alloc, text.as_str())?;
+    let script = script(alloc, text)?;
     let mut into = Vec::from_slice(alloc, b"before\n")?;
     told_text(alloc, &mut into, script.lines(), &ledger, &IDS, &WIDTHS)?;
     Ok(into)
 }
 
-// How many cases print what they are to, up to the first that does not.
-fn right(alloc: Global) -> Result<usize, Fail> {
-    let mut count = 0usize;
-    for case in CASES.split('=') {
-        let wanted = format!(in alloc; "before\n{}", marked(alloc, case, "< ")?)?;
-        if printed(alloc, case)?.as_slice() != wanted.as_bytes() {
-            return Ok(count);
-        }
-        count = count.saturating_add(1);
-    }
-    Ok(count)
-}
-
 #[test]
 fn each_line_prints_what_came_of_it(rt: HostRuntime) -> Result<(), Fail> {
-    assert_eq!(rt; right(rt.alloc())?, 5);
+    for row in &ROWS {
+        let wanted = format!(in rt.alloc(); "before\n{}", row.5)?;
+        let lines = lines(rt.alloc(), row)?;
+        assert!(rt; lines.as_slice() == wanted.as_bytes(), "at {}", row.0);
+    }
     Ok(())
 }
 
@@ -390,16 +301,6 @@ fn pending(alloc: Global) -> Result<Vec<PanicEntry>, AllocError>
     Ok(panic)
 }
 
-// The calls and the marks of `run 3` and `nmi 2`.
-const TURNS_CAME: &str = "\
-c 0 queued 1 .
-c 1 long 1 done
-c 0 queued 2 .
-c 1 short 2 done
-m 1 3 3
-m 2 4 3
-m 0 4 3";
-
 const TURNS: &str = "\
 run 3
 nmi 1: queued 1
@@ -429,14 +330,24 @@ fn turns_are_told_by_source_and_the_summary_has_a_line_for_each(
     let alloc = rt.alloc();
     let block = hex::decode(alloc, BARE)?;
     Block::read(&block, 65536)?;
+    let told = [
+        (0, Outcome::Queued(1), AckState::NotAsked),
+        (1, Outcome::Malformed(1, Malformed::TooLong), AckState::Done),
+        (0, Outcome::Queued(2), AckState::NotAsked),
+        (
+            1,
+            Outcome::Malformed(2, Malformed::TooShort),
+            AckState::Done,
+        ),
+    ];
     let ledger = Ledger {
-        calls: calls(alloc, TURNS_CAME)?,
+        calls: calls(alloc, &told)?,
         taken: taken(alloc, &block)?,
         reports: reports(alloc)?,
         panic: pending(alloc)?,
         injections: Vec::new(alloc),
         peeks: Vec::new(alloc),
-        marks: marks(alloc, TURNS_CAME)?,
+        marks: marks(alloc, &[(1, 3, 3), (2, 4, 3), (0, 4, 3)])?,
     };
     let script = script(alloc, "run 3\nnmi 2\n")?;
     let text = script_text(
