@@ -135,5 +135,5 @@ pub fn read_rest<P: Firmware, L: Ledger>(
     ensures cost { steps.new ≡ steps.old + accesses_behind count }
 {
     image.set_len(count);
-    join(address, header, image.0.as_mut_slice(), port, steps)
+    join(address, header, image.memory.split_at_mut(count).0, port, steps)
 }
