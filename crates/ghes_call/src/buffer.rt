@@ -1,25 +1,38 @@
 //! Memory for the bytes of an image, made before it is needed.
-ghost use Rattle.std.specs.Prelude.{◌≡◌, ◌≤◌, ◌+◌, [], length, IfOk};
+ghost use Rattle.std.specs.Prelude.{◌≡◌, ◌≤◌, ◌++◌, [], length, drop, IfOk};
 
 use std::alloc::{AllocError, Global};
 use std::marker::Model;
-
-// The zeros that make a buffer longer, a piece at a time.
-const ZEROS: [u8; 4096] = [0; 4096];
 
 /// Bytes in memory that was made before. A contract sees the bytes, and how many there is room for.
 ///
 /// What has room for an image takes no memory when the image is put there. Source: own choice.
 #[derive(Debug, Drop)]
-pub struct Buffer(pub Vec<u8>);
+pub struct Buffer {
+    /// All that there is room for. What lies behind the bytes means nothing.
+    pub memory: Vec<u8>,
+    /// How many bytes it has.
+    pub len: usize,
+}
 
 impl Model for Buffer {
-    ghost use Rattle.std.specs.Prelude.{vec_capacity};
+    ghost use Rattle.std.specs.Prelude.{◌≤◌, length, take};
     ghost use Rattle.ghes_call.specs.Buffer.{BufferSeen};
 
     ghost Value = { BufferSeen };
 
-    ghost view = { λ b. record { bytes = b.0.items; room = vec_capacity b.0 } };
+    ghost view = { λ b. record { bytes = take b.len b.memory.items; room = length b.memory.items } };
+
+    ghost invariant = { λ b. b.len ≤ length b.memory.items };
+}
+
+// Puts these bytes in front of what is behind as many.
+fn put_front(memory: &mut [u8], bytes: &[u8])
+    requires { length bytes.now ≤ length memory.old }
+    ensures { memory.new ≡ bytes.now ++ drop (length bytes.now) memory.old }
+{
+    let (front, _behind) = memory.split_at_mut(bytes.len());
+    front.copy_from_slice(bytes);
 }
 
 impl Buffer {
@@ -27,14 +40,27 @@ impl Buffer {
     pub fn with_room(alloc: Global, room: usize) -> Result<Buffer, AllocError>
         ensures { IfOk result (λ buffer. buffer ≡ record { bytes = []; room = room }) }
     {
-        Ok(Buffer(Vec::with_capacity(alloc, room)?))
+        Ok(Buffer {
+            memory: vec![in alloc; 0u8; room]?,
+            len: 0,
+        })
+    }
+
+    /// Nothing, with room for nothing. No memory is taken.
+    pub fn none(alloc: Global) -> Buffer
+        ensures { result ≡ record { bytes = []; room = 0 } }
+    {
+        Buffer {
+            memory: Vec::new(alloc),
+            len: 0,
+        }
     }
 
     /// The bytes, lent.
     pub fn as_slice(&self) -> &[u8]
         ensures { result.now ≡ self.now.bytes }
     {
-        &self.0
+        self.memory.split_at(self.len).0
     }
 
     /// Empties it. The memory stays.
@@ -42,7 +68,7 @@ impl Buffer {
         ensures empty { self.new.bytes ≡ [] }
         ensures room { self.old.room ≤ self.new.room }
     {
-        self.0.clear();
+        self.len = 0;
     }
 
     /// Puts these bytes in the place of what it holds. No memory is taken.
@@ -51,36 +77,16 @@ impl Buffer {
         ensures value { self.new.bytes ≡ bytes.now }
         ensures room { self.old.room ≤ self.new.room }
     {
-        self.clear();
-        // It cannot fail below the room.
-        if self.0.extend_from_slice(bytes).is_err() {
-            self.0.clear();
-        }
+        self.len = bytes.len();
+        put_front(&mut self.memory, bytes);
     }
 
-    // Adds so many zeros.
-    fn add_zeros(&mut self, count: usize)
-        requires piece { count ≤ 4096 }
-        requires room { length self.old.bytes + count ≤ self.old.room }
-        ensures length { length self.new.bytes ≡ length self.old.bytes + count }
-        ensures room { self.old.room ≤ self.new.room }
-    {
-        // It cannot fail below the room.
-        if self.0.extend_from_slice(ZEROS.split_at(count).0).is_err() {
-            self.0.clear();
-        }
-    }
-
-    /// Makes it so many bytes long. No memory is taken.
+    /// Makes it so many bytes long. What they are is what was in the memory. No memory is taken.
     pub fn set_len(&mut self, count: usize)
         requires { count ≤ self.old.room }
         ensures length { length self.new.bytes ≡ count }
         ensures room { self.old.room ≤ self.new.room }
     {
-        self.0.truncate(count);
-        while self.0.len() < count {
-            let more = (count - self.0.len()).min(ZEROS.len());
-            self.add_zeros(more);
-        }
+        self.len = count;
     }
 }

@@ -51,7 +51,7 @@ fn put<L: Ledger>(
     ensures room { pass.view.room ≤ image.new.room }
     ensures cost { steps.new ≡ steps.old + 3 }
 {
-    let unused = Buffer(Vec::new(*image.0.allocator()));
+    let unused = Buffer::none(*image.memory.allocator());
     let packet = Packet {
         source: ask.source,
         seq: ask.seq,

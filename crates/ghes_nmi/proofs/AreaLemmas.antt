@@ -55,13 +55,13 @@ image_joined header bytes count block head long is =
     let size : 20 + (count - 20) ≡ count = omega (arith, long) in
     is ∙ ap (λ front. front ++ shown 20 (count - 20) block) head ∙ joined_padded (count - 20) block ∙ ap (λ n. padded n block) size
 
--- and they are what a buffer holds of them
-pub image_held : (header bytes items : List ℕ) (len count n : ℕ) (stands : Option (List ℕ)) → Some header ≡ option_map (padded 20) stands → 20 ≤ count → length bytes ≡ len → n ≡ count → bytes ≡ header ++ shown 20 (n - 20) (unwrap_or stands []) → take len (bytes ++ drop (length bytes) items) ≡ padded count (unwrap_or stands [])
-image_held header bytes items len count n None head long size same is = absurd (none-some header (sym head))
-image_held header bytes items len count n (Some block) head long size same is =
+-- and they are what a buffer holds of them, whose memory has them in front
+pub image_held : (header memory items : List ℕ) (len count room : ℕ) (stands : Option (List ℕ)) → Some header ≡ option_map (padded 20) stands → 20 ≤ count → len ≡ count → length memory ≡ room → take count memory ≡ header ++ shown 20 (count - 20) (unwrap_or stands []) → take len (take room (memory ++ drop (length memory) items)) ≡ padded count (unwrap_or stands [])
+image_held header memory items len count room None head long same size is = absurd (none-some header (sym head))
+image_held header memory items len count room (Some block) head long same size is =
     let front : header ≡ padded 20 block = ap (λ o. unwrap_or o []) head in
-    ap (λ k. take k (bytes ++ drop (length bytes) items)) (sym size) ∙ take-append_seam bytes (drop (length bytes) items)
-    ∙ image_joined header bytes count block front long (is ∙ ap (λ k. header ++ shown 20 (k - 20) block) same)
+    ap (λ k. take len (take k (memory ++ drop (length memory) items))) (sym size) ∙ ap (take len) (take-append_seam memory (drop (length memory) items))
+    ∙ ap (λ k. take k memory) same ∙ image_joined header (take count memory) count block front long is
 
 -- a front is so long
 padded_long : (n : ℕ) (block : List ℕ) → length (padded n block) ≡ n

@@ -1,5 +1,5 @@
 //! The steps that look at a source: its status address register, the header of a block, and the rest of its image.
-ghost use Rattle.std.specs.Prelude.{◌≡◌, ◌≤◌, ◌+◌, ◌-◌, ◌++◌, [], length, Some, unwrap_or, IfOk, OnOk};
+ghost use Rattle.std.specs.Prelude.{◌≡◌, ◌≤◌, ◌+◌, ◌-◌, ◌++◌, [], length, take, Some, unwrap_or, IfOk, OnOk};
 ghost use Rattle.apei_base.specs.Bus.{reach_of, CountsFaults};
 ghost use Rattle.apei_base.specs.Firmware.{status_value, standing, area_bytes};
 ghost use Rattle.cper_block.specs.Header.{header_of};
@@ -78,25 +78,28 @@ pub fn read_header<P: Firmware, L: Ledger>(
     }
 }
 
-// Writes the header to the front of the bytes, and copies what is behind it there into the rest, if there is a rest.
+// Writes the header to the front of the memory, and copies what is behind it there up to so many bytes, if there is more of the block.
 #[inline(always)]
 fn join<P: Firmware, L: Ledger>(
     address: u64,
     header: &[u8; 20],
-    bytes: &mut [u8],
+    count: usize,
+    memory: &mut [u8],
     port: &mut P,
     steps: &mut Steps<L>,
 ) -> Result<(), BusFault>
     requires at { address ≡ (P.seen port.old).layout.area }
-    requires within { length bytes.old ≤ (P.seen port.old).layout.room }
-    requires whole { 20 ≤ length bytes.old }
+    requires within { count ≤ (P.seen port.old).layout.room }
+    requires whole { 20 ≤ count }
+    requires fits { count ≤ length memory.old }
     ensures value { OnOk result
-        (bytes.new ≡ header.now ++ area_bytes 20 (length bytes.old - 20) (P.seen port.old)) }
-    ensures size { length bytes.new ≡ length bytes.old }
+        (take count memory.new ≡ header.now ++ area_bytes 20 (count - 20) (P.seen port.old)) }
+    ensures size { length memory.new ≡ length memory.old }
     ensures kept { P.seen port.new ≡ P.seen port.old }
     ensures count { CountsFaults result (P.faults port.old) (P.faults port.new) }
-    ensures cost { steps.new ≡ steps.old + accesses_behind (length bytes.old) }
+    ensures cost { steps.new ≡ steps.old + accesses_behind count }
 {
+    let (bytes, _behind) = memory.split_at_mut(count);
     let (front, rest) = bytes.split_at_mut(20);
     front.copy_from_slice(header);
     if rest.is_empty() {
@@ -135,5 +138,5 @@ pub fn read_rest<P: Firmware, L: Ledger>(
     ensures cost { steps.new ≡ steps.old + accesses_behind count }
 {
     image.set_len(count);
-    join(address, header, image.0.as_mut_slice(), port, steps)
+    join(address, header, count, &mut image.memory, port, steps)
 }

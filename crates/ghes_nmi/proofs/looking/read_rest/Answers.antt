@@ -6,10 +6,10 @@ use Rattle.ghes_nmi.proofs.looking.read_rest.Goals as goal
 
 pub returns-clause-value : goal.returns-clause-value
 returns-clause-value g c =
-    let held = c.as_mut_slice.ensures in
-    let count : length c.as_mut_slice.result.now ≡ c.args.count = search rules in
+    let same : c.image.inside.len ≡ c.args.count = search rules in
+    let size : length c.join.new.memory ≡ c.image.inside.memory.len = search rules in
     on_ok c.join.result _ _
-    (λ is. image_held c.args.header.now c.join.new.bytes c.image.inside.0.items c.image.inside.0.len c.args.count _ (standing (g.P.Firmware.seen c.args.port.now)) c.requires.header c.requires.whole (c.join.ensures.size ∙ held.len) count is)
+    (λ is. image_held c.args.header.now c.join.new.memory c.image.inside.memory.items c.image.inside.len c.args.count c.image.inside.memory.len (standing (g.P.Firmware.seen c.args.port.now)) c.requires.header c.requires.whole same size is)
     c.join.ensures.value
 
 pub returns-clause-front : goal.returns-clause-front
