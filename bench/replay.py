@@ -56,7 +56,7 @@ def profile(folder, unit):
     path, _, units = script(folder, unit, 1000 * len(unit))
     out = os.path.join(folder, "callgrind")
     callgrind(words(path), out)
-    for inclusive, pattern, most in [("yes", r"ghes_report::body::body_text ", 1), ("no", r"\S+", 10)]:
+    for inclusive, pattern, most in [("yes", r"cper_text::body::add_block ", 1), ("no", r"\S+", 10)]:
         listing = subprocess.run(["callgrind_annotate", f"--inclusive={inclusive}", out], stdout=subprocess.PIPE, text=True).stdout
         lines = re.findall(rf"^\s*([\d,]+) \([^)]*\)\s+(\S*{pattern}.*)$", listing, re.MULTILINE)
         for count, name in [line for line in lines if "PROGRAM TOTALS" not in line[1]][:most]:

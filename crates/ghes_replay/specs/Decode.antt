@@ -5,7 +5,7 @@ use Rattle.cper_block.specs.Block.{largest_block, Judges}
 use Rattle.cper_block.specs.Header.{header_of, block_length}
 use Rattle.cper_block.specs.Text.{malformed_text}
 use Rattle.cper_block.specs.declared.malformed.Malformed.{Malformed}
-use Rattle.ghes_report.specs.Body.{block_text}
+use Rattle.cper_text.specs.Body.{block_text}
 
 -- the line of a block of so many bytes (own choice)
 unfoldable pub block_line : ℕ → List ℕ

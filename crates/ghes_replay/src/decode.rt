@@ -3,7 +3,7 @@ ghost use Rattle.std.specs.Prelude.{◌≡◌, ◌++◌, OnOk, IfOk, None};
 ghost use Rattle.std.specs.String.{string_bytes};
 ghost use Rattle.cper_block.specs.Block.{largest_block, Judges};
 ghost use Rattle.cper_block.specs.Header.{header_of, block_length};
-ghost use Rattle.ghes_report.specs.Body.{block_text};
+ghost use Rattle.cper_text.specs.Body.{block_text};
 ghost use Rattle.ghes_replay.specs.Decode.{block_line, malformed_line, Decodes};
 ghost use Rattle.ghes_replay.specs.Done.{Prints, Does};
 ghost use Rattle.ghes_replay.specs.Task.{Decode};

@@ -1,16 +1,10 @@
-pub mod Body
-pub mod Bytes
 pub mod Cell
-pub mod Entry
-pub mod Grown
 pub mod Inject
 pub mod Left
 pub mod Lines
 pub mod Panic
 pub mod Prints
-pub mod Report
 pub mod Script
-pub mod Section
 pub mod Severities
 pub mod Sound
 pub mod Summary

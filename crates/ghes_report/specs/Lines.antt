@@ -13,7 +13,7 @@ use Rattle.ghes_ledger.specs.declared.ledger.Reported.TheVariants.{New, Repeat}
 use Rattle.ghes_ledger.specs.declared.ledger.Taken.{Taken}
 use Rattle.ghes_ledger.specs.declared.ledger.Taken.TheVariants.{Delivered, Dropped}
 use Rattle.ghes_report.specs.declared.lines.Told.{Told}
-use Rattle.ghes_report.specs.Report.{report_text, drop_text}
+use Rattle.cper_text.specs.Report.{report_text, drop_text}
 
 -- the id of the source at a position, and 0 where there is none
 abbrev pub id_or : Option ℕ → ℕ

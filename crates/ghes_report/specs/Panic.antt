@@ -4,9 +4,9 @@ use Rattle.std.specs.List.{flat_map}
 use Rattle.std.specs.Fmt.{decimal}
 use Rattle.cper_block.specs.declared.malformed.Malformed.{Malformed as Reason}
 use Rattle.ghes_ledger.specs.declared.ledger.PanicEntry.{PanicEntry}
-use Rattle.ghes_report.specs.Body.{block_text}
+use Rattle.cper_text.specs.Body.{block_text}
 use Rattle.ghes_report.specs.Lines.{id_at}
-use Rattle.ghes_report.specs.Report.{malformed_lines}
+use Rattle.cper_text.specs.Report.{malformed_lines}
 
 -- the first line of a block in the panic report, by the word for what it was
 unfoldable pub entry_line : List ℕ → ℕ → ℕ → List ℕ

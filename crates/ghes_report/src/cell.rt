@@ -1,13 +1,10 @@
 //! The lines of read ack cells.
 ghost use Rattle.std.specs.Prelude.{◌≡◌, ◌≤◌, ◌++◌, OnOk};
-ghost use Rattle.std.specs.Int.{bytes_high_first};
 ghost use Rattle.std.specs.List.{flat_map};
-ghost use Rattle.hex.specs.Hex.{encode_lower};
 ghost use Rattle.ghes_report.specs.Cell.{width_at, bytes_in, cell_line};
 
-use crate::bytes::few_digits;
 use crate::lines::numbered;
-use crate::text::Text;
+use cper_text::{Text, low_digits};
 use std::alloc::AllocError;
 
 /// The access width of the read ack register of the source at a position, in bits, and 0 where there is none.
@@ -28,18 +25,8 @@ fn bytes_in(width: u8) -> usize
     usize::from(width / 8).min(8)
 }
 
-// Adds the digits of so many of the lowest bytes of a number.
-#[tactic(auto, using(crate::proofs::DigitLemmas::low_bytes))]
-fn low_digits(text: &mut Text, bytes: usize, number: u64) -> Result<(), AllocError>
-    requires { bytes ≤ 8 }
-    ensures ok { OnOk result (text.new.added ≡ text.old.added ++ encode_lower (bytes_high_first bytes number)) }
-    ensures front { text.new.front ≡ text.old.front }
-{
-    few_digits(text, number.to_be_bytes().split_at(8 - bytes).1)
-}
-
 // Adds the line of a cell.
-#[tactic(auto, using(crate::proofs::Joining::grouped), unfolding(crate::specs::Cell::cell_line))]
+#[tactic(auto, using(cper_text::proofs::Joining::grouped), unfolding(crate::specs::Cell::cell_line))]
 fn cell_line(text: &mut Text, id: u16, width: u8, cell: u64) -> Result<(), AllocError>
     ensures ok { OnOk result (text.new.added ≡ text.old.added ++ cell_line id width cell) }
     ensures front { text.new.front ≡ text.old.front }

@@ -4,15 +4,13 @@ ghost use Rattle.std.specs.Fmt.{decimal};
 ghost use Rattle.std.specs.List.{flat_map};
 ghost use Rattle.ghes_report.specs.Inject.{made_text, end_text, inject_head, injection_line};
 
-use crate::bytes::few_digits;
 use crate::lines::{id_at, numbered};
-use crate::report::source_and_block;
-use crate::text::Text;
+use cper_text::{Text, low_digits, source_and_block};
 use ghes_ledger::InjectionEnd;
 use std::alloc::AllocError;
 
 // Adds the block that firmware made.
-#[tactic(auto, using(crate::proofs::Joining::grouped), unfolding(crate::specs::Inject::made_text))]
+#[tactic(auto, using(cper_text::proofs::Joining::grouped), unfolding(crate::specs::Inject::made_text))]
 fn made_text(text: &mut Text, id: u16, seq: u32) -> Result<(), AllocError>
     ensures ok { OnOk result (text.new.added ≡ text.old.added ++ made_text id seq) }
     ensures front { text.new.front ≡ text.old.front }
@@ -21,7 +19,7 @@ fn made_text(text: &mut Text, id: u16, seq: u32) -> Result<(), AllocError>
 }
 
 // Adds the command status that an injection ended with.
-#[tactic(auto, using(crate::proofs::Joining::grouped))]
+#[tactic(auto, using(cper_text::proofs::Joining::grouped))]
 fn status_text(text: &mut Text, value: u64) -> Result<(), AllocError>
     ensures ok { OnOk result (text.new.added ≡ text.old.added ++ codes "status " ++ decimal value) }
     ensures front { text.new.front ≡ text.old.front }
@@ -31,7 +29,7 @@ fn status_text(text: &mut Text, value: u64) -> Result<(), AllocError>
 }
 
 // Adds how an injection ended.
-#[tactic(auto, using(crate::proofs::Joining::grouped))]
+#[tactic(auto, using(cper_text::proofs::Joining::grouped))]
 fn end_text(text: &mut Text, ids: &[u16], end: InjectionEnd) -> Result<(), AllocError>
     ensures ok { OnOk result (text.new.added ≡ text.old.added ++ end_text ids.now end) }
     ensures front { text.new.front ≡ text.old.front }
@@ -47,18 +45,18 @@ fn end_text(text: &mut Text, ids: &[u16], end: InjectionEnd) -> Result<(), Alloc
 }
 
 // Adds what stands before the end in the line of an injection.
-#[tactic(auto, using(crate::proofs::Joining::grouped), unfolding(crate::specs::Inject::inject_head))]
+#[tactic(auto, using(cper_text::proofs::Joining::grouped), unfolding(crate::specs::Inject::inject_head))]
 fn inject_head(text: &mut Text, error: u32) -> Result<(), AllocError>
     ensures ok { OnOk result (text.new.added ≡ text.old.added ++ inject_head error) }
     ensures front { text.new.front ≡ text.old.front }
 {
     text.put(b"inject 0x")?;
-    few_digits(text, &error.to_be_bytes())?;
+    low_digits(text, 4, u64::from(error))?;
     text.put(b": ")
 }
 
 // Adds the line of an injection.
-#[tactic(auto, using(crate::proofs::Joining::grouped), unfolding(crate::specs::Inject::injection_line))]
+#[tactic(auto, using(cper_text::proofs::Joining::grouped), unfolding(crate::specs::Inject::injection_line))]
 fn injection_line(
     text: &mut Text,
     ids: &[u16],

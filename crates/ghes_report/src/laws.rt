@@ -1,20 +1,13 @@
 //! Laws over the texts, each the contract of a function that does nothing.
-ghost use Rattle.std.specs.Prelude.{◌≡◌, ◌≤◌, ℕ, List, ◌++◌, length, None};
-ghost use Rattle.cper_block.specs.Block.{Judges};
+ghost use Rattle.std.specs.Prelude.{◌≡◌, ◌≤◌, ℕ, List, length};
 ghost use Rattle.ghes_ledger.specs.declared.summary.Summary.{Summary};
 ghost use Rattle.ghes_ledger.specs.Counts.{IsSummaryOf};
 ghost use Rattle.ghes_ledger.specs.History.{Act, Executed};
 ghost use Rattle.ghes_ledger.specs.Kept.{Kept};
 ghost use Rattle.ghes_ledger.specs.Lawful.{IsLawful};
 ghost use Rattle.ghes_ledger.specs.Plan.{Plan};
-ghost use Rattle.ghes_report.specs.Body.{block_text};
 ghost use Rattle.ghes_report.specs.Sound.{IsSound};
 ghost use Rattle.ghes_report.specs.Summary.{summary_text, ledger_summary};
-
-/// The lines of a block are those of its own bytes: what lies behind it is not printed.
-pub fn bytes_behind_a_block_are_not_printed()
-    ensures { (block behind : List ℕ) (limit : ℕ) → Judges block limit None → block_text (block ++ behind) ≡ block_text block }
-{}
 
 /// The text of a summary that was made of a ledger is that of the ledger.
 pub fn a_summary_tells_its_ledger()

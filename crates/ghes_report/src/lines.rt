@@ -5,8 +5,7 @@ ghost use Rattle.std.specs.List.{flat_map, AllByRecursion};
 ghost use Rattle.ghes_report.specs.Lines.{id_at, told_in, told_of, told_text, outcome_text, ack_text, call_line, call_text, repeat_line, taken_text, between};
 ghost use Rattle.ghes_report.specs.Sound.{IsSoundTaken};
 
-use crate::report::{dropped, reason_text, report, source_and_block};
-use crate::text::Text;
+use cper_text::{Text, add_drop, add_report, reason_text, source_and_block};
 use ghes_call::{AckState, Call, Outcome};
 use ghes_ledger::{Report, Reported, Taken};
 use std::alloc::AllocError;
@@ -21,7 +20,7 @@ pub(crate) struct Told {
 }
 
 // Adds the block that a report told.
-#[tactic(auto, using(crate::proofs::Joining::grouped), unfolding(crate::specs::Lines::told_text))]
+#[tactic(auto, using(cper_text::proofs::Joining::grouped), unfolding(crate::specs::Lines::told_text))]
 fn told_text(text: &mut Text, told: Told) -> Result<(), AllocError>
     ensures ok { OnOk result (text.new.added ≡ text.old.added ++ told_text told) }
     ensures front { text.new.front ≡ text.old.front }
@@ -30,7 +29,7 @@ fn told_text(text: &mut Text, told: Told) -> Result<(), AllocError>
 }
 
 /// Adds a word and a number.
-#[tactic(auto, using(crate::proofs::Joining::grouped))]
+#[tactic(auto, using(cper_text::proofs::Joining::grouped))]
 pub(crate) fn numbered(text: &mut Text, word: &str, number: u32) -> Result<(), AllocError>
     ensures ok { OnOk result (text.new.added ≡ text.old.added ++ word.now ++ decimal number) }
     ensures front { text.new.front ≡ text.old.front }
@@ -40,7 +39,7 @@ pub(crate) fn numbered(text: &mut Text, word: &str, number: u32) -> Result<(), A
 }
 
 // Adds how a call ended.
-#[tactic(auto, using(crate::proofs::Joining::grouped))]
+#[tactic(auto, using(cper_text::proofs::Joining::grouped))]
 fn outcome_text(text: &mut Text, told: Told, outcome: Outcome) -> Result<(), AllocError>
     ensures ok { OnOk result (text.new.added ≡ text.old.added ++ outcome_text told outcome) }
     ensures front { text.new.front ≡ text.old.front }
@@ -109,7 +108,7 @@ fn ack_text(ack: AckState) -> &'static str
 }
 
 // Adds the line of a call.
-#[tactic(auto, using(crate::proofs::Joining::grouped), unfolding(crate::specs::Lines::call_line))]
+#[tactic(auto, using(cper_text::proofs::Joining::grouped), unfolding(crate::specs::Lines::call_line))]
 fn call_line(
     text: &mut Text,
     id: u16,
@@ -160,7 +159,7 @@ pub(crate) fn calls_text(
 }
 
 // Adds the line of a repeat.
-#[tactic(auto, using(crate::proofs::Joining::grouped), unfolding(crate::specs::Lines::repeat_line))]
+#[tactic(auto, using(cper_text::proofs::Joining::grouped), unfolding(crate::specs::Lines::repeat_line))]
 fn repeat_line(text: &mut Text, id: u16, seq: u32, told: Told) -> Result<(), AllocError>
     ensures ok { OnOk result (text.new.added ≡ text.old.added ++ repeat_line id seq told) }
     ensures front { text.new.front ≡ text.old.front }
@@ -188,7 +187,7 @@ pub(crate) fn taken_text(
             seq,
             bytes,
             reported: Reported::New(_),
-        } => report(text, id_at(ids, *source as usize), *seq, bytes.as_slice()),
+        } => add_report(text, id_at(ids, *source as usize), *seq, bytes.as_slice()),
         Taken::Delivered {
             source,
             seq,
@@ -203,7 +202,7 @@ pub(crate) fn taken_text(
             seq,
             bytes,
             reason,
-        } => dropped(
+        } => add_drop(
             text,
             id_at(ids, *source as usize),
             *seq,

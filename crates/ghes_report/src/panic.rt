@@ -4,10 +4,8 @@ ghost use Rattle.std.specs.List.{flat_map, AllByRecursion};
 ghost use Rattle.ghes_report.specs.Panic.{entry_line, entry_word, entry_text, panic_text};
 ghost use Rattle.ghes_report.specs.Sound.{IsSoundEntry};
 
-use crate::body::body_text;
 use crate::lines::id_at;
-use crate::report::{malformed, source_and_block};
-use crate::text::Text;
+use cper_text::{Text, add_block, add_malformed, source_and_block};
 use ghes_ledger::PanicEntry;
 use std::alloc::AllocError;
 
@@ -19,7 +17,7 @@ fn entry_word(fatal: bool) -> &'static str
 }
 
 // Adds the first line of a block in the panic report.
-#[tactic(auto, using(crate::proofs::Joining::grouped), unfolding(crate::specs::Panic::entry_line))]
+#[tactic(auto, using(cper_text::proofs::Joining::grouped), unfolding(crate::specs::Panic::entry_line))]
 fn entry_line(text: &mut Text, word: &str, id: u16, seq: u32) -> Result<(), AllocError>
     ensures ok { OnOk result (text.new.added ≡ text.old.added ++ entry_line word.now id seq) }
     ensures front { text.new.front ≡ text.old.front }
@@ -30,7 +28,7 @@ fn entry_line(text: &mut Text, word: &str, id: u16, seq: u32) -> Result<(), Allo
 }
 
 // Adds the lines of a block in the panic report.
-#[tactic(auto, using(crate::proofs::Joining::grouped))]
+#[tactic(auto, using(cper_text::proofs::Joining::grouped))]
 fn entry_text(text: &mut Text, ids: &[u16], entry: &PanicEntry) -> Result<(), AllocError>
     requires { IsSoundEntry entry.now }
     ensures ok { OnOk result (text.new.added ≡ text.old.added ++ entry_text ids.now entry.now) }
@@ -39,8 +37,8 @@ fn entry_text(text: &mut Text, ids: &[u16], entry: &PanicEntry) -> Result<(), Al
     let id = id_at(ids, entry.source as usize);
     entry_line(text, entry_word(entry.fatal), id, entry.seq)?;
     match &entry.reason {
-        Some(reason) => malformed(text, *reason, entry.bytes.as_slice()),
-        None => body_text(text, entry.bytes.as_slice()),
+        Some(reason) => add_malformed(text, *reason, entry.bytes.as_slice()),
+        None => add_block(text, entry.bytes.as_slice()),
     }
 }
 
@@ -57,7 +55,7 @@ fn entries_text(text: &mut Text, ids: &[u16], entries: &[PanicEntry]) -> Result<
 }
 
 /// Adds the panic report: nothing, where the panic list is empty.
-#[tactic(auto, using(crate::proofs::Joining::grouped))]
+#[tactic(auto, using(cper_text::proofs::Joining::grouped))]
 pub(crate) fn add_panic(
     text: &mut Text,
     ids: &[u16],

@@ -7,7 +7,7 @@ ghost use Rattle.ghes_report.specs.Summary.{summary_text};
 
 use crate::panic::add_panic;
 use crate::summary::add_summary;
-use crate::text::Text;
+use cper_text::Text;
 use ghes_ledger::{Ledger, Summary};
 use std::alloc::{AllocError, Global};
 

@@ -6,7 +6,7 @@ ghost use Rattle.ghes_report.specs.Sound.{IsSound, IsSoundTaken};
 
 use crate::left::Left;
 use crate::replay::{panic_text, summary_text};
-use crate::text::Text;
+use cper_text::Text;
 use ghes_ledger::{Ledger, Mark};
 use ghes_script::Line;
 use std::alloc::{AllocError, Global};
@@ -72,7 +72,7 @@ pub fn told_text(
 
 /// The text of a replay: its lines, the panic report, and the summary. It is a function of the lines of its script, the ledger, and
 /// of each source its id, the access width of its read ack register in bits, and how many blocks it raised and had acknowledged.
-#[tactic(auto, unfolding(crate::specs::Script::script_text), using(crate::proofs::Joining::grouped))]
+#[tactic(auto, unfolding(crate::specs::Script::script_text), using(cper_text::proofs::Joining::grouped))]
 pub fn script_text(
     alloc: Global,
     lines: &[Line],

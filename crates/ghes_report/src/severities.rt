@@ -3,11 +3,11 @@ ghost use Rattle.std.specs.Prelude.{◌≡◌, ◌++◌, OnOk, OnErr};
 ghost use Rattle.ghes_report.specs.Severities.{uncorrected_part, corrected_part, severities_line};
 
 use crate::summary::counted;
-use crate::text::Text;
+use cper_text::Text;
 use std::alloc::{AllocError, Global};
 
 // Adds how many were not corrected.
-#[tactic(auto, using(crate::proofs::Joining::grouped), unfolding(crate::specs::Severities::uncorrected_part))]
+#[tactic(auto, using(cper_text::proofs::Joining::grouped), unfolding(crate::specs::Severities::uncorrected_part))]
 fn uncorrected_part(text: &mut Text, recoverable: u64, fatal: u64) -> Result<(), AllocError>
     ensures ok { OnOk result (text.new.added ≡ text.old.added ++ uncorrected_part recoverable fatal) }
     ensures front { text.new.front ≡ text.old.front }
@@ -17,7 +17,7 @@ fn uncorrected_part(text: &mut Text, recoverable: u64, fatal: u64) -> Result<(),
 }
 
 // Adds how many were, or have none.
-#[tactic(auto, using(crate::proofs::Joining::grouped), unfolding(crate::specs::Severities::corrected_part))]
+#[tactic(auto, using(cper_text::proofs::Joining::grouped), unfolding(crate::specs::Severities::corrected_part))]
 fn corrected_part(text: &mut Text, corrected: u64, none: u64) -> Result<(), AllocError>
     ensures ok { OnOk result (text.new.added ≡ text.old.added ++ corrected_part corrected none) }
     ensures front { text.new.front ≡ text.old.front }
@@ -28,7 +28,7 @@ fn corrected_part(text: &mut Text, corrected: u64, none: u64) -> Result<(), Allo
 }
 
 // Adds the line.
-#[tactic(auto, using(crate::proofs::Joining::grouped))]
+#[tactic(auto, using(cper_text::proofs::Joining::grouped))]
 fn severities_line(
     text: &mut Text,
     recoverable: u64,

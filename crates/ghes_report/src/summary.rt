@@ -5,12 +5,12 @@ ghost use Rattle.ghes_report.specs.Lines.{id_or};
 ghost use Rattle.ghes_report.specs.Summary.{raised_line, fates_line, totals_line, source_text, sources_from, summary_text};
 
 use crate::lines::id_at;
-use crate::text::Text;
+use cper_text::Text;
 use ghes_ledger::{SourceSummary, Summary};
 use std::alloc::AllocError;
 
 /// Adds a count behind its words.
-#[tactic(auto, using(crate::proofs::Joining::grouped))]
+#[tactic(auto, using(cper_text::proofs::Joining::grouped))]
 pub(crate) fn counted(text: &mut Text, words: &str, count: u64) -> Result<(), AllocError>
     ensures ok { OnOk result (text.new.added ≡ text.old.added ++ words.now ++ decimal count) }
     ensures front { text.new.front ≡ text.old.front }
@@ -20,7 +20,7 @@ pub(crate) fn counted(text: &mut Text, words: &str, count: u64) -> Result<(), Al
 }
 
 // Adds the first part of the line of a source: what went in.
-#[tactic(auto, using(crate::proofs::Joining::grouped), unfolding(crate::specs::Summary::raised_line))]
+#[tactic(auto, using(cper_text::proofs::Joining::grouped), unfolding(crate::specs::Summary::raised_line))]
 fn raised_line(text: &mut Text, id: u16, raised: u32, acknowledged: u32) -> Result<(), AllocError>
     ensures ok { OnOk result (text.new.added ≡ text.old.added ++ raised_line id raised acknowledged) }
     ensures front { text.new.front ≡ text.old.front }
@@ -31,7 +31,7 @@ fn raised_line(text: &mut Text, id: u16, raised: u32, acknowledged: u32) -> Resu
 }
 
 // Adds the second part of the line of a source: what came out.
-#[tactic(auto, using(crate::proofs::Joining::grouped), unfolding(crate::specs::Summary::fates_line))]
+#[tactic(auto, using(cper_text::proofs::Joining::grouped), unfolding(crate::specs::Summary::fates_line))]
 fn fates_line(text: &mut Text, fates: SourceSummary) -> Result<(), AllocError>
     ensures ok { OnOk result (text.new.added ≡ text.old.added ++ fates_line fates) }
     ensures front { text.new.front ≡ text.old.front }
@@ -44,7 +44,7 @@ fn fates_line(text: &mut Text, fates: SourceSummary) -> Result<(), AllocError>
 }
 
 // Adds the last line.
-#[tactic(auto, using(crate::proofs::Joining::grouped), unfolding(crate::specs::Summary::totals_line))]
+#[tactic(auto, using(cper_text::proofs::Joining::grouped), unfolding(crate::specs::Summary::totals_line))]
 fn totals_line(text: &mut Text, summary: &Summary) -> Result<(), AllocError>
     ensures ok { OnOk result (text.new.added ≡ text.old.added ++
         totals_line summary.now.reports summary.now.repeats summary.now.no_slot summary.now.faults) }
@@ -58,7 +58,7 @@ fn totals_line(text: &mut Text, summary: &Summary) -> Result<(), AllocError>
 }
 
 // Adds the line of a source.
-#[tactic(auto, using(crate::proofs::Joining::grouped))]
+#[tactic(auto, using(cper_text::proofs::Joining::grouped))]
 fn source_text(
     text: &mut Text,
     id: u16,
@@ -106,7 +106,7 @@ fn sources_text(
 }
 
 /// Adds a summary.
-#[tactic(auto, using(crate::proofs::Joining::grouped))]
+#[tactic(auto, using(cper_text::proofs::Joining::grouped))]
 pub(crate) fn add_summary(
     text: &mut Text,
     summary: &Summary,

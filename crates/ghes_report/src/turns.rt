@@ -6,13 +6,13 @@ ghost use Rattle.ghes_report.specs.Turns.{turns_line, call_on, taken_on, lines_o
 ghost use Rattle.ghes_ledger.specs.Names.{packet_of};
 
 use crate::lines::{call_text, numbered, taken_text};
-use crate::text::Text;
+use cper_text::Text;
 use ghes_call::Call;
 use ghes_ledger::{Report, Taken};
 use std::alloc::AllocError;
 
 // Adds the first line, by how many turns there are.
-#[tactic(auto, using(crate::proofs::Joining::grouped), unfolding(crate::specs::Turns::turns_line))]
+#[tactic(auto, using(cper_text::proofs::Joining::grouped), unfolding(crate::specs::Turns::turns_line))]
 fn turns_line(text: &mut Text, turns: u16) -> Result<(), AllocError>
     ensures ok { OnOk result (text.new.added ≡ text.old.added ++ turns_line turns) }
     ensures front { text.new.front ≡ text.old.front }
@@ -101,7 +101,7 @@ fn all_taken_on(
 }
 
 // Adds the lines of the source at this position: its calls, and then its taken blocks.
-#[tactic(auto, using(crate::proofs::Joining::grouped))]
+#[tactic(auto, using(cper_text::proofs::Joining::grouped))]
 fn lines_on(
     text: &mut Text,
     ids: &[u16],
@@ -138,7 +138,7 @@ fn all_lines_on(
 }
 
 /// Adds the lines of so many turns: by source in table order its calls, and then its taken blocks.
-#[tactic(auto, using(crate::proofs::Joining::grouped))]
+#[tactic(auto, using(cper_text::proofs::Joining::grouped))]
 pub(crate) fn turns_text(
     text: &mut Text,
     ids: &[u16],

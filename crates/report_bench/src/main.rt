@@ -7,7 +7,7 @@ ghost use Rattle.std.specs.Prelude.{◌≡◌, None};
 ghost use Rattle.cper_block.specs.Block.{Judges, largest_block};
 
 use cper_block::{Block, LARGEST_BLOCK};
-use ghes_report::report_text;
+use cper_text::report_text;
 use std::alloc::{AllocError, Global};
 use std::rt::Env;
 use std::{env, io};

@@ -4,7 +4,6 @@ ghost use Rattle.std.specs.List.{AllByRecursion};
 ghost use Rattle.cper_block.specs.Block.{Judges, largest_block};
 ghost use Rattle.ghes_report.specs.Sound.{IsSoundTaken, IsSoundEntry};
 
-use super::BARE;
 use crate::{script_text, severities_text, told_text};
 use apei_base::Bytes;
 use cper_block::{Block, Malformed};
@@ -13,6 +12,9 @@ use ghes_ledger::{InjectionEnd, Ledger, Mark, PanicEntry, Report, Reported, Take
 use ghes_script::{Script, SourceName};
 use std::alloc::{AllocError, Global};
 use std::test::Fail;
+
+// A block without data, corrected.
+const BARE: &str = "0200000000000000000000000000000002000000";
 
 // Four sources, of which the last three have read ack registers, of 32, 8 and 64 bits.
 const NAMES: [SourceName; 4] = [

@@ -3,7 +3,7 @@ use Rattle.std.proofs.Common.{refl}
 use Rattle.ghes_report.proofs.SoundLemmas.{sound_judges}
 use Rattle.ghes_report.proofs.lines.taken_text.Goals as goal
 
-pub report-requires : goal.report-requires
-report-requires c =
+pub add_report-requires : goal.add_report-requires
+add_report-requires c =
     let sound = rw c.in-Delivered-default-default-default-New.is at c.requires in
     rw c.as_slice.ensures (sound_judges _ (sound refl))

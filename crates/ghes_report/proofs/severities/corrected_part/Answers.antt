@@ -4,7 +4,7 @@ use Rattle.std.specs.Prelude.{codes}
 use Rattle.std.specs.Fmt.{decimal}
 use Rattle.std.proofs.lemmas.Result.{on_ok_weaker}
 use Rattle.ghes_report.specs.Severities.{corrected_part}
-use Rattle.ghes_report.proofs.Joining.{four_pieces}
+use Rattle.cper_text.proofs.Joining.{four_pieces}
 use Rattle.ghes_report.proofs.severities.corrected_part.Goals as goal
 
 pub returns-clause-ok : goal.returns-clause-ok
