@@ -6,6 +6,7 @@ mod check;
 mod decode;
 mod done;
 mod exit;
+mod hearing;
 mod loading;
 mod playing;
 mod program;
@@ -18,9 +19,11 @@ mod tests;
 
 pub use exit::{InputFile, Refusal};
 pub use ghes_call::{AckState, Call, Outcome, Reply};
+pub use ghes_handlers::SeverityCounter;
 pub use ghes_ledger::{
     Ledger, Mark, PanicEntry, Report, Reported, Taken, a_ledger_tells_one_history,
     each_block_has_one_fate,
 };
+pub use ghes_notify::{Handler, Verdict};
 pub use program::ghes_main;
 pub use run::{RunEnd, check_run, decode_run, ghes_run};

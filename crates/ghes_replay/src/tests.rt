@@ -146,7 +146,7 @@ fn ask(alloc: Global, words: &[&str], mut files: MemFiles, puts: &[u64]) -> Resu
         all.push(String::from_str(alloc, word)?)?;
     }
     let mut out = MemSink::new(alloc, 2_000_000, puts)?;
-    let end = ghes_run(alloc, &all, &mut files, &mut out);
+    let end = ghes_run(alloc, &all, &mut files, &mut out, Vec::new(alloc));
     Ok(Ran { end, out })
 }
 
