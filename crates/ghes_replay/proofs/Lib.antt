@@ -2,6 +2,7 @@ pub mod BareLemmas
 pub mod DoneLemmas
 pub mod EndLemmas
 pub mod FileLemmas
+pub mod HearLemmas
 pub mod LoadLemmas
 pub mod PlayLemmas
 pub mod ProgramLemmas
