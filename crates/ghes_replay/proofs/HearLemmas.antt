@@ -12,7 +12,7 @@ use Rattle.ghes_replay.specs.declared.exit.Refusal.TheVariants as refusals
 use Rattle.ghes_replay.specs.declared.putting.End.{End}
 use Rattle.ghes_replay.specs.Done.{Output, output}
 use Rattle.ghes_replay.specs.Hearing.{Hearing, Untold, ToldAll, ToldShort, IsHeard, AreHeard, AreToldIn, IsTelling, Closes, Hears, HearsAs, closing_of}
-use Rattle.ghes_replay.specs.Run.{AreToldOf, PutsHeard, RefusedBy, WasPut, closing_behind, done_end}
+use Rattle.ghes_replay.specs.Run.{AreToldOf, PutsAnswer, PutsHeard, WasPut, closing_behind, done_end}
 
 -- all was told, and then the closing texts were asked for
 pub closed : {H : Type 0} (stands : H → List Delivery → Type 0) (answers : H → Delivery → Verdict) (closing : H → List ℕ) (ledger : Kept)
@@ -57,21 +57,17 @@ pub not_told : {H : Type 0} (stands : H → List Delivery → Type 0) (answers :
     (handlers : List H) → Hears stands answers closing (output None text) handlers handlers (Ok (output None text))
 not_told stands answers closing text handlers = (Untold, refl, (refl, ap (output None) (sym (append-nil text))))
 
--- what was heard was put
-pub heard_put : (before after : SinkSeen) (done whole : Output) (hearing : Hearing) (end : End) → HearsAs done (Ok whole) hearing
-    → WasPut before after whole.text (done_end whole.ledger) end → PutsHeard before after done hearing end
-heard_put before after done whole hearing end (heard, same) put =
+-- what was heard was put, or a line for want of memory
+pub heard_put : (before after : SinkSeen) (done : Output) (answer : Result Output Refusal) (hearing : Hearing) (end : End)
+    → HearsAs done answer hearing → PutsAnswer before after answer end → PutsHeard before after done hearing end
+heard_put before after done (Ok whole) hearing end (heard, same) put =
     let P : Output → Type 0 = λ w. WasPut before after w.text (done_end w.ledger) end in
     inl (heard, subst P same put)
-
--- memory ran out for the handlers, and a line was put
-pub unheard_put : (before after : SinkSeen) (done : Output) (refusal : Refusal) (hearing : Hearing) (end : End) → HearsAs done (Err refusal) hearing
-    → RefusedBy before after [] refusal end → PutsHeard before after done hearing end
-unheard_put before after done refusals.HandlerMemory hearing end short (inl put) = inr (inl (short, put))
-unheard_put before after done refusals.HandlerMemory hearing end short (inr put) = inr (inl (short, put))
-unheard_put before after done refusals.OutOfMemory hearing end untold (inl put) = inr (inr (untold, put))
-unheard_put before after done refusals.OutOfMemory hearing end untold (inr put) = inr (inr (untold, put))
-unheard_put before after done other hearing end heard put = absurd heard
+heard_put before after done (Err refusals.HandlerMemory) hearing end short (inl put) = inr (inl (short, put))
+heard_put before after done (Err refusals.HandlerMemory) hearing end short (inr put) = inr (inl (short, put))
+heard_put before after done (Err refusals.OutOfMemory) hearing end untold (inl put) = inr (inr (untold, put))
+heard_put before after done (Err refusals.OutOfMemory) hearing end untold (inr put) = inr (inr (untold, put))
+heard_put before after done (Err other) hearing end heard put = absurd heard
 
 -- the closing texts of handlers that were told of a ledger
 pub closing_heard : {H : Type 0} (stands : H → List Delivery → Type 0) (answers : H → Delivery → Verdict) (closing : H → List ℕ)

@@ -9,5 +9,6 @@ pub mod ProgramLemmas
 pub mod PutLemmas
 pub mod TaskLemmas
 pub mod ToldLemmas
+pub mod WithLemmas
 pub mod WordLemmas
 pub mod WorkLemmas

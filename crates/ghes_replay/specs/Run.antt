@@ -1,5 +1,5 @@
 -- How a run of the program ends.
-use Rattle.std.specs.Prelude.{◌≡◌, ◌⊎◌, ℕ, List, [], ◌++◌, Bool, ◌||◌, ◌==◌, Option, Some, None, Ok}
+use Rattle.std.specs.Prelude.{◌≡◌, ◌⊎◌, ℕ, List, [], ◌++◌, Bool, ◌||◌, ◌==◌, Option, Some, None, Result, Ok, Err}
 use Rattle.ghes_handlers.specs.Closing.{closing_texts}
 use Rattle.ghes_handlers.specs.Deliveries.{deliveries_of}
 use Rattle.ghes_notify.specs.Delivery.{Delivery}
@@ -89,6 +89,11 @@ abbrev pub EndsWith : {H : Type 0} → (H → List Delivery → Type 0) → (H �
 EndsWith stands answers closing words before after handlers end =
     (hearing : Hearing) × EndsBy words before after hearing (end_of end)
     × AreHeard stands answers closing handlers end.handlers.items hearing
+
+-- the text of what was done was put, or the line of a refusal that is about no file
+abbrev pub PutsAnswer : SinkSeen → SinkSeen → Result Output Refusal → End → Type 0
+PutsAnswer before after (Ok done) end = WasPut before after done.text (done_end done.ledger) end
+PutsAnswer before after (Err refusal) end = RefusedBy before after [] refusal end
 
 -- what was done was put, with the closing texts of the handlers that were told of all; or memory ran out for a handler, or before any was
 -- told, and a line was put

@@ -42,13 +42,15 @@ fn tell_taken<H: Handler>(alloc: Global, taken: &[Taken], handlers: Vec<H>) -> T
             };
         }
     };
-    let result = match tell_all(&mut chain, taken) {
-        Ok(()) => Ok(()),
-        Err(_) => Err(Refusal::HandlerMemory),
-    };
-    Telling {
-        result,
-        handlers: chain.into_handlers(),
+    match tell_all(&mut chain, taken) {
+        Ok(()) => Telling {
+            result: Ok(()),
+            handlers: chain.into_handlers(),
+        },
+        Err(_) => Telling {
+            result: Err(Refusal::HandlerMemory),
+            handlers: chain.into_handlers(),
+        },
     }
 }
 
@@ -104,16 +106,18 @@ fn hear_replay<H: Handler>(
 {
     let mut whole = text;
     let told = tell_ledger(alloc, &ledger, &mut whole, handlers);
-    let answer = match told.result {
-        Ok(()) => Ok(Done {
-            ledger: Some(ledger),
-            text: whole,
-        }),
-        Err(refusal) => Err(refusal),
-    };
-    Heard {
-        answer,
-        handlers: told.handlers,
+    match told.result {
+        Ok(()) => Heard {
+            answer: Ok(Done {
+                ledger: Some(ledger),
+                text: whole,
+            }),
+            handlers: told.handlers,
+        },
+        Err(refusal) => Heard {
+            answer: Err(refusal),
+            handlers: told.handlers,
+        },
     }
 }
 

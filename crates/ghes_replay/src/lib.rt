@@ -1,5 +1,6 @@
 //! What the program `ghes` does for its words: it replays a script of errors on a table, to the ledger of what became of
-//! each block and its text; it lists tables; it prints one block; or it is refused, with a status and a line.
+//! each block and its text, and tells handlers of the deliveries; it lists tables; it prints one block; or it is refused, with
+//! a status and a line.
 #![tactic(auto)]
 
 mod check;

@@ -4,7 +4,7 @@ ghost use Rattle.std.specs.String.{string_bytes};
 ghost use Rattle.ghes_outside.specs.Outside.{Rose};
 ghost use Rattle.ghes_replay.specs.Done.{Does, done_status};
 ghost use Rattle.ghes_replay.specs.Hearing.{Untold};
-ghost use Rattle.ghes_replay.specs.Run.{AreToldOf, AskNothing, EndsBy, EndsTaskWith, EndsWith, IsUnlessFault, PutsText, PutsWith, RefusedBy, bare_end, closing_behind, end_of, is_check_status, is_decode_status, is_status, is_untold_status};
+ghost use Rattle.ghes_replay.specs.Run.{AreToldOf, AskNothing, EndsBy, EndsTaskWith, EndsWith, IsUnlessFault, PutsAnswer, PutsText, PutsWith, RefusedBy, bare_end, closing_behind, end_of, is_check_status, is_decode_status, is_status, is_untold_status};
 ghost use Rattle.ghes_replay.specs.Seen.{Loads, NoneFailed, outside};
 ghost use Rattle.ghes_replay.specs.Task.{IsFileOf, IsFileWord, task_seen};
 ghost use Rattle.ghes_replay.specs.Told.{IsAccepted, HasBadTable, HasBadMachine, HasBadScript};
@@ -68,6 +68,16 @@ fn with<H>(end: End, handlers: Vec<H>) -> RunEnd<H>
     }
 }
 
+// Puts the text of what was done, or the line of a refusal that is about no file.
+fn put_answer<K: Sink>(alloc: Global, answer: Result<Done, Refusal>, out: &mut K) -> End
+    ensures { PutsAnswer (K.seen out.old) (K.seen out.new) (done_of answer) result }
+{
+    match answer {
+        Ok(Done { ledger, text }) => end_with(out, &text, done_status(&ledger), ledger),
+        Err(refusal) => refuse(alloc, out, "", refusal),
+    }
+}
+
 // Lets the handlers hear what was done, and puts its text with their closing texts, or the line for want of memory.
 fn put_heard<K: Sink, H: Handler>(
     alloc: Global,
@@ -80,11 +90,7 @@ fn put_heard<K: Sink, H: Handler>(
         (output_of done.ledger done.text) handlers.items result }
 {
     let heard = hear(alloc, done, handlers);
-    let end = match heard.answer {
-        Ok(Done { ledger, text }) => end_with(out, &text, done_status(&ledger), ledger),
-        Err(refusal) => refuse(alloc, out, "", refusal),
-    };
-    with(end, heard.handlers)
+    with(put_answer(alloc, heard.answer, out), heard.handlers)
 }
 
 // Does a task, and puts its text with the closing texts of the handlers, or the line of its refusal.
