@@ -212,15 +212,15 @@ is_listed words before after status ends zero = (is_done words before after Unto
 
 -- a status that is none of those
 not_untold_at : (expected status : ℕ) → is_untold_status expected ≡ false → status ≡ expected → IsTrue (is_untold_status status) → ⊥
-not_untold_at expected status no same yes = false_true (sym no ∙ ap is_untold_status (sym same) ∙ yes)
+not_untold_at expected status other same comes = false_true (sym other ∙ ap is_untold_status (sym same) ∙ comes)
   where
     false_true : false ≡ true → ⊥
     false_true e = cc
 
 not_untold_put : (before after : SinkSeen) (text : List ℕ) (wanted end : End) → is_untold_status wanted.status ≡ false → WasPut before after text wanted end → IsTrue (is_untold_status end.status) → ⊥
-not_untold_put before after text wanted end no put yes = elim (status_put before after text wanted end put) [
-  | inl same ↦ not_untold_at wanted.status end.status no same yes
-  | inr cut ↦ not_untold_at 6 end.status refl cut yes
+not_untold_put before after text wanted end other put comes = elim (status_put before after text wanted end put) [
+  | inl same ↦ not_untold_at wanted.status end.status other same comes
+  | inr cut ↦ not_untold_at 6 end.status refl cut comes
 ]
 
 not_untold_done : (ledger : Option Kept) → is_untold_status (done_status ledger) ≡ false
@@ -228,10 +228,10 @@ not_untold_done ledger = elim (done_below_2 ledger) [ inl zero ↦ ap is_untold_
 
 -- at a refusal that is not for want of memory nobody was told
 pub nobody_told : (words : List (List ℕ)) (before after : Outside) (hearing : Hearing) (end : End) → EndsBy words before after hearing end → IsTrue (is_untold_status end.status) → hearing ≡ Untold
-nobody_told words before after hearing end (inl (task, asked, inl (done, is, none, heard, put))) yes = absurd (not_untold_put before.out after.out (done.text ++ closing_of hearing) (done_end done.ledger) end (not_untold_done done.ledger) put yes)
-nobody_told words before after hearing end (inl (task, asked, inr (inl (refusal, cause, counted, untold, put)))) yes = untold
-nobody_told words before after hearing end (inl (task, asked, inr (inr (done, is, none, short, put)))) yes = absurd (not_untold_put before.out after.out (line_of [] refusals.HandlerMemory) (bare_end 7) end refl put yes)
-nobody_told words before after hearing end (inr (nothing, untold, put)) yes = untold
+nobody_told words before after hearing end (inl (task, asked, inl (done, is, none, heard, put))) comes = absurd (not_untold_put before.out after.out (done.text ++ closing_of hearing) (done_end done.ledger) end (not_untold_done done.ledger) put comes)
+nobody_told words before after hearing end (inl (task, asked, inr (inl (refusal, cause, counted, untold, put)))) comes = untold
+nobody_told words before after hearing end (inl (task, asked, inr (inr (done, is, none, short, put)))) comes = absurd (not_untold_put before.out after.out (line_of [] refusals.HandlerMemory) (bare_end 7) end refl put comes)
+nobody_told words before after hearing end (inr (nothing, untold, put)) comes = untold
 
 -- a status from the list
 is_status_at : (expected status : ℕ) → IsTrue (is_status expected) → status ≡ expected → IsTrue (is_status status)

@@ -128,10 +128,11 @@ pub(crate) fn hear<H: Handler>(alloc: Global, done: Done, handlers: Vec<H>) -> H
     ensures { Hears H.stands H.answers H.closing_text (output_of done.ledger done.text)
         handlers.items result.handlers.items (done_of result.answer) }
 {
-    match done.ledger {
-        Some(ledger) => hear_replay(alloc, ledger, done.text, handlers),
+    let Done { ledger, text } = done;
+    match ledger {
+        Some(ledger) => hear_replay(alloc, ledger, text, handlers),
         None => Heard {
-            answer: Ok(done),
+            answer: Ok(Done { ledger: None, text }),
             handlers,
         },
     }

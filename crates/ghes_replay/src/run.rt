@@ -59,7 +59,7 @@ pub(crate) fn refuse<K: Sink>(alloc: Global, out: &mut K, name: &str, refusal: R
 // An end, with the handlers.
 fn with<H>(end: End, handlers: Vec<H>) -> RunEnd<H>
     ensures end { end_of result ≡ end }
-    ensures handlers { result.handlers ≡ handlers }
+    ensures handlers { result.handlers.items ≡ handlers.items }
 {
     RunEnd {
         status: end.status,
