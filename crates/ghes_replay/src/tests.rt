@@ -362,8 +362,8 @@ fn the_ledger_has_the_calls_the_blocks_the_reports_and_the_marks(
 ) -> Result<(), Fail> {
     let alloc = rt.alloc();
     let words = ["replay", "hest", "-", "fates"];
-    let ran = ask_alone(alloc, &words, all_files(alloc, &[])?, &[])?;
-    let ledger = ran.end.ledger.ok_or("no ledger")?;
+    let end = ask_alone(alloc, &words, all_files(alloc, &[])?, &[])?.end;
+    let ledger = end.ledger.ok_or("no ledger")?;
     assert_eq!(rt; ledger.calls.len(), 3);
     assert_eq!(rt; ledger.calls[0].reply.outcome, Outcome::Queued(1));
     assert_eq!(rt; ledger.taken.len(), 2);

@@ -1,4 +1,6 @@
 //! Replays with handlers: what they are told, what they close with, and that they come back at every end.
+ghost use Rattle.std.specs.Prelude.{◌≤◌, IfOk, vec_len};
+
 use super::probe::Probe;
 use super::{FATES, Ran, USAGE, all_files, ask};
 use crate::SeverityCounter;
@@ -50,12 +52,12 @@ fn two_counters_close_one_after_the_other_and_come_back(rt: HostRuntime) -> Resu
     let alloc = rt.alloc();
     let handlers = Vec::from_array(alloc, [counter(alloc)?, counter(alloc)?])?;
     let words = ["replay", "hest", "-", "memory"];
-    let ran = ask(alloc, &words, all_files(alloc, &[])?, &[], handlers)?;
+    let Ran { end, out } = ask(alloc, &words, all_files(alloc, &[])?, &[], handlers)?;
     let line = "severities: recoverable 0, fatal 0, corrected 1, none 0\n";
     let text = format!(in alloc; "{MEMORY}{line}{line}")?;
-    assert_eq!(rt; ran.end.status, 0);
-    assert!(rt; ran.out.written() == text.as_bytes());
-    let mut handlers = ran.end.handlers;
+    assert_eq!(rt; end.status, 0);
+    assert!(rt; out.written() == text.as_bytes());
+    let mut handlers = end.handlers;
     assert_eq!(rt; handlers.len(), 2);
     // A box that came back is dropped, and the other closes again.
     handlers.remove(0);
@@ -66,7 +68,9 @@ fn two_counters_close_one_after_the_other_and_come_back(rt: HostRuntime) -> Resu
 }
 
 // Two probes, of which the first goes on so often, then answers so, and finds memory for its closing text or none.
-fn probes(alloc: Global, after: u8, verdict: Verdict, closes: bool) -> Result<Vec<Probe>, Fail> {
+fn probes(alloc: Global, after: u8, verdict: Verdict, closes: bool) -> Result<Vec<Probe>, Fail>
+    ensures { IfOk result (λ handlers. vec_len handlers ≤ 32) }
+{
     let first = Probe {
         after,
         verdict,
@@ -92,10 +96,12 @@ fn a_handler_ends_a_delivery_or_the_run_and_all_come_back(rt: HostRuntime) -> Re
         let handlers = probes(alloc, after, verdict, closes)?;
         let words = ["replay", "hest", "-", "three"];
         let ran = ask(alloc, &words, all_files(alloc, &[])?, &[], handlers)?;
-        let back = &ran.end.handlers;
+        let [first, second] = ran.end.handlers.as_slice() else {
+            panic!(rt; "two handlers were handed in");
+        };
         assert_eq!(rt; ran.end.status, status);
-        assert_eq!(rt; (back[0].name, back[1].name), (b'a', b'b'));
-        assert_eq!(rt; [back[0].told, back[1].told], told);
+        assert_eq!(rt; (first.name, second.name), (b'a', b'b'));
+        assert_eq!(rt; [first.told, second.told], told);
         assert_eq!(rt; ran.end.ledger.is_some(), status == 0);
         if status == 0 {
             assert!(rt; ran.out.written().ends_with(&[b'a', told[0], b'b', told[1]]));
@@ -125,14 +131,12 @@ fn at_every_end_the_handlers_come_back_in_their_order(rt: HostRuntime) -> Result
     for (words, puts, status, told) in &ENDS {
         let handlers = probes(alloc, 9, Verdict::Go, true)?;
         let ran = ask(alloc, words, all_files(alloc, &[])?, puts, handlers)?;
-        let back = &ran.end.handlers;
+        let [first, second] = ran.end.handlers.as_slice() else {
+            panic!(rt; "two handlers were handed in");
+        };
         assert_eq!(rt; ran.end.status, *status, "at {words:?}");
-        assert_eq!(rt; (back[0].name, back[1].name), (b'a', b'b'), "at {words:?}");
-        assert_eq!(rt;
-            (back[0].told, back[1].told),
-            (*told, *told),
-            "at {words:?}"
-        );
+        assert_eq!(rt; (first.name, second.name), (b'a', b'b'), "at {words:?}");
+        assert_eq!(rt; (first.told, second.told), (*told, *told), "at {words:?}");
     }
     Ok(())
 }
