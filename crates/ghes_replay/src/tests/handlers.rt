@@ -15,11 +15,6 @@ const MEMORY: &str =
     source 1: raised 1, acknowledged 1, delivered 1, duplicate 0, dropped 0, panic 0\n\
     reports 1, repeats 0, no slot 0, fault 0\n";
 
-// A counter in a box.
-fn counter(alloc: Global) -> Result<Box<dyn Handler + Send>, Fail> {
-    Ok(Box::new(alloc, SeverityCounter::new())?)
-}
-
 // A script of table "hest", the status, and the closing line of a counter.
 const COUNTED: [(&str, u8, &str); 5] = [
     // Of a delivered, and not of a dropped block.
@@ -37,7 +32,7 @@ const COUNTED: [(&str, u8, &str); 5] = [
 fn a_counter_closes_with_what_was_delivered(rt: HostRuntime) -> Result<(), Fail> {
     let alloc = rt.alloc();
     for (script, status, counts) in &COUNTED {
-        let handlers = Vec::from_array(alloc, [counter(alloc)?])?;
+        let handlers = Vec::from_array(alloc, [SeverityCounter::new()])?;
         let words = ["replay", "hest", "-", *script];
         let ran = ask(alloc, &words, all_files(alloc, &[])?, &[], handlers)?;
         let line = format!(in alloc; "fault 0\nseverities: {counts}\n")?;
@@ -50,7 +45,9 @@ fn a_counter_closes_with_what_was_delivered(rt: HostRuntime) -> Result<(), Fail>
 #[test]
 fn two_counters_close_one_after_the_other_and_come_back(rt: HostRuntime) -> Result<(), Fail> {
     let alloc = rt.alloc();
-    let handlers = Vec::from_array(alloc, [counter(alloc)?, counter(alloc)?])?;
+    let mut handlers: Vec<Box<dyn Handler + Send>> = Vec::new(alloc);
+    handlers.push(Box::new(alloc, SeverityCounter::new())?)?;
+    handlers.push(Box::new(alloc, SeverityCounter::new())?)?;
     let words = ["replay", "hest", "-", "memory"];
     let Ran { end, out } = ask(alloc, &words, all_files(alloc, &[])?, &[], handlers)?;
     let line = "severities: recoverable 0, fatal 0, corrected 1, none 0\n";
