@@ -80,6 +80,20 @@ def summary(raised, acknowledged, delivered, dropped=0, panic=0, no_slot=0, sour
     return totals([(source, raised, acknowledged, delivered, dropped, panic)], delivered, no_slot, fault)
 
 
+def severities(text):
+    """The closing line of the counter of severities behind this text of a replay.
+
+    It counts the deliveries: each report, by the severity in its body, and each repeat, which has the bytes of the report that it
+    names. A block that is dropped or left in a panic report is none. As many are delivered as the summary says.
+    """
+    lines = text.split("\n")
+    words = [line.split() for line in lines]
+    found = {(w[2], w[4]): below[1] for w, below in zip(words, words[1:]) if w[:2] == ["report", "source"]}
+    told = list(found.values()) + [found[w[7], w[9]] for w in words if w[:2] == ["repeat", "source"]]
+    assert len(told) == sum(int(w[7].rstrip(",")) for w in words if w[:1] == ["source"] and w[6] == "delivered")
+    return "severities: " + ", ".join(f"{word} {told.count(word)}" for word in ("recoverable", "fatal", "corrected", "none")) + "\n"
+
+
 def report(source, number, body=CORRECTED):
     return f"report source {source} block {number}\n{body}"
 
@@ -558,6 +572,8 @@ def main():
                 ran = subprocess.run([str(TOP / "ghes"), *words.split()], cwd=folder, stdout=subprocess.PIPE,
                                      stderr=subprocess.DEVNULL, timeout=120)
             count += 1
+            if words.startswith("replay") and status < 2:
+                text += severities(text)
             if (ran.returncode, ran.stdout) != (status, text.encode()):
                 failures += 1
                 print(f"FAILED {topic.__name__}, {name}: status {ran.returncode}, output {ran.stdout[:300]!r}")

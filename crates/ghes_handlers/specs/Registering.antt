@@ -1,4 +1,4 @@
--- Handlers that are registered before a replay.
+-- Handlers that are registered one after another.
 use Rattle.std.specs.Prelude.{ℕ, pos, zero, suc, ◌+◌, List, [], ◌∷◌, length}
 use Rattle.ghes_notify.specs.declared.order.Tag.{Tag}
 use Rattle.ghes_notify.specs.declared.error.RegisterError.TheVariants.{the_data as RegisterError, OutOfMemory, Full}

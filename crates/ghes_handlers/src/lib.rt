@@ -1,5 +1,5 @@
-//! The handlers of a replay: all are registered before it, told of the deliveries of its ledger
-//! behind it, and asked for their closing texts at the end.
+//! The handlers of a replay: they are registered one after another, told of the deliveries of its
+//! ledger behind it, and asked for their closing texts at the end.
 //!
 //! The handlers are told behind the run, so they are told of what stands in the ledger, in order. A
 //! block that was dropped tells nobody. A source is its position among the enabled ones, as there.

@@ -3,6 +3,7 @@ mod CacheLemmas
 mod ExecLemmas
 mod FollowsLemmas
 mod FoundLemmas
+mod FreshLemmas
 mod LedLemmas
 mod LineLemmas
 mod MidwayLemmas

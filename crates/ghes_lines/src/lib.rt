@@ -16,6 +16,8 @@ mod pending;
 mod port;
 mod run;
 mod running;
+#[cfg(test)]
+mod tests;
 
 pub use desk::Desk;
 pub use error::Stop;

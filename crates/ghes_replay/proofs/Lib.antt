@@ -2,11 +2,13 @@ pub mod BareLemmas
 pub mod DoneLemmas
 pub mod EndLemmas
 pub mod FileLemmas
+pub mod HearLemmas
 pub mod LoadLemmas
 pub mod PlayLemmas
 pub mod ProgramLemmas
 pub mod PutLemmas
 pub mod TaskLemmas
 pub mod ToldLemmas
+pub mod WithLemmas
 pub mod WordLemmas
 pub mod WorkLemmas

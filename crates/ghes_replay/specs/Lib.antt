@@ -1,6 +1,7 @@
 pub mod Check
 pub mod Decode
 pub mod Done
+pub mod Hearing
 pub mod Loading
 pub mod Planned
 pub mod Program

@@ -21,6 +21,7 @@ status_of (refusals.Script line kind) = 4
 status_of (refusals.Full line) = 8
 status_of (refusals.Load file why) = 5
 status_of refusals.OutOfMemory = 7
+status_of refusals.HandlerMemory = 7
 
 -- the line for a command line that is none of the forms
 abbrev pub usage_line : List ℕ
@@ -64,6 +65,7 @@ line_of name (refusals.Platform error) = platform_line (fw_error_text error)
 line_of name (refusals.Script line kind) = script_line line kind
 line_of name (refusals.Full line) = full_line
 line_of name refusals.OutOfMemory = memory_line
+line_of name refusals.HandlerMemory = memory_line
 
 -- the name of the file in the line of a refusal, which only a file that was not loaded has
 abbrev pub refused_name : Task → Refusal → List ℕ

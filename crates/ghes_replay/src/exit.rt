@@ -38,6 +38,8 @@ pub enum Refusal {
     Full { line: u32 },
     /// Status 7.
     OutOfMemory,
+    /// Memory ran out for a handler: it answered so, or its closing text found none, behind a replay. Status 7.
+    HandlerMemory,
 }
 
 impl From<AllocError> for Refusal {
@@ -63,7 +65,7 @@ impl Refusal {
             Refusal::Hest(_) | Refusal::Einj(_) => 3,
             Refusal::Script { .. } => 4,
             Refusal::Load(_, _) => 5,
-            Refusal::OutOfMemory => 7,
+            Refusal::OutOfMemory | Refusal::HandlerMemory => 7,
             Refusal::Platform(_) | Refusal::Full { .. } => 8,
         }
     }
@@ -85,7 +87,9 @@ impl Refusal {
                 format!(in alloc; "ghes: script: line {line}: {kind}\n")
             }
             Refusal::Full { .. } => String::from_str(alloc, "ghes: platform: 2 room\n"),
-            Refusal::OutOfMemory => String::from_str(alloc, "ghes: out of memory\n"),
+            Refusal::OutOfMemory | Refusal::HandlerMemory => {
+                String::from_str(alloc, "ghes: out of memory\n")
+            }
         }
     }
 }

@@ -1,5 +1,11 @@
 //! Runs over files and an output in memory. Many more runs, of the built program, stand in checks/runs.py.
-use crate::{Outcome, Reported, RunEnd, Taken, check_run, decode_run, ghes_run};
+mod handlers;
+mod probe;
+
+ghost use Rattle.std.specs.Prelude.{◌≤◌, vec_len};
+
+use crate::{Outcome, Reported, RunEnd, SeverityCounter, Taken, check_run, decode_run, ghes_run};
+use ghes_notify::Handler;
 use ghes_outside::{MemFiles, MemSink};
 use std::alloc::Global;
 use std::test::Fail;
@@ -66,7 +72,7 @@ const BYTES: [(&str, &str); 8] = [
 ];
 
 // Scripts by name.
-const SCRIPTS: [(&str, &str); 5] = [
+const SCRIPTS: [(&str, &str); 10] = [
     (
         "fates",
         "raise 1 0200000000000000000000000000000002000000\nraise 1 0200000000000000000000000100000002000000\n\
@@ -86,6 +92,34 @@ const SCRIPTS: [(&str, &str); 5] = [
     (
         "inject",
         "busy 2\ninject 0x8 memory 0x12345678 0xfffffffffffff000\nnmi 1\n",
+    ),
+    (
+        "memory",
+        "raise 1 12000000000000000000000090000000020000001411bca5646fde4eb8633e83ed7c83b1\
+        020000000102000050000000000000000000000000000000000000000000000000000000\
+        00000000000000000000000006400000000000000000000000000000005034120000000000f0ffffffffffff\
+        000000000000000000000000000000000000000000000000000000000000000000000000000000000200000000000000\n\
+        nmi 1\nwork\n",
+    ),
+    (
+        "twice",
+        "raise 1 0200000000000000000000000000000002000000\nraise 1 0200000000000000000000000000000002000000\n\
+        nmi 1\nnmi 1\nwork\n",
+    ),
+    (
+        "later",
+        "raise 1 0200000000000000000000000000000002000000\nnmi 1\nwork\n\
+        raise 1 0200000000000000000000000000000002000000\nnmi 1\n",
+    ),
+    (
+        "words",
+        "raise 1 0200000000000000000000000000000003000000\nraise 1 0200000000000000000000000000000000000000\n\
+        nmi 1\nnmi 1\n",
+    ),
+    (
+        "three",
+        "raise 1 1200000000000000000000000000000002000000\nraise 1 2200000000000000000000000000000002000000\n\
+        raise 1 3200000000000000000000000000000002000000\nnmi 1\nnmi 1\nwork\nnmi 1\n",
     ),
 ];
 
@@ -122,8 +156,8 @@ const USAGE: &str =
 
 // A run that ended, and its output.
 #[derive(Drop)]
-struct Ran {
-    end: RunEnd,
+struct Ran<H> {
+    end: RunEnd<H>,
     out: MemSink,
 }
 
@@ -139,15 +173,33 @@ fn all_files(alloc: Global, failing: &[u64]) -> Result<MemFiles, Fail> {
     Ok(files)
 }
 
-// Does what the words ask for, with these files and an output on which the numbered puts fail.
-fn ask(alloc: Global, words: &[&str], mut files: MemFiles, puts: &[u64]) -> Result<Ran, Fail> {
+// Does what the words ask for, with these files, an output on which the numbered puts fail, and these handlers.
+fn ask<H: Handler>(
+    alloc: Global,
+    words: &[&str],
+    mut files: MemFiles,
+    puts: &[u64],
+    handlers: Vec<H>,
+) -> Result<Ran<H>, Fail>
+    requires { vec_len handlers ≤ 32 }
+{
     let mut all = Vec::new(alloc);
     for word in words {
         all.push(String::from_str(alloc, word)?)?;
     }
     let mut out = MemSink::new(alloc, 2_000_000, puts)?;
-    let end = ghes_run(alloc, &all, &mut files, &mut out);
+    let end = ghes_run(alloc, &all, &mut files, &mut out, handlers);
     Ok(Ran { end, out })
+}
+
+// The same with no handlers.
+fn ask_alone(
+    alloc: Global,
+    words: &[&str],
+    files: MemFiles,
+    puts: &[u64],
+) -> Result<Ran<SeverityCounter>, Fail> {
+    ask(alloc, words, files, puts, Vec::new(alloc))
 }
 
 // The words, the loads and the puts that fail, the status and the output.
@@ -273,7 +325,7 @@ const CASES: [Case; 22] = [
 fn a_run_ends_with_its_status_and_its_text(rt: HostRuntime) -> Result<(), Fail> {
     let alloc = rt.alloc();
     for (words, loads, puts, status, pieces) in &CASES {
-        let ran = ask(alloc, words, all_files(alloc, loads)?, puts)?;
+        let ran = ask_alone(alloc, words, all_files(alloc, loads)?, puts)?;
         let mut text = String::new(alloc);
         for piece in *pieces {
             text.push_str(piece)?;
@@ -310,8 +362,8 @@ fn the_ledger_has_the_calls_the_blocks_the_reports_and_the_marks(
 ) -> Result<(), Fail> {
     let alloc = rt.alloc();
     let words = ["replay", "hest", "-", "fates"];
-    let ran = ask(alloc, &words, all_files(alloc, &[])?, &[])?;
-    let ledger = ran.end.ledger.ok_or("no ledger")?;
+    let end = ask_alone(alloc, &words, all_files(alloc, &[])?, &[])?.end;
+    let ledger = end.ledger.ok_or("no ledger")?;
     assert_eq!(rt; ledger.calls.len(), 3);
     assert_eq!(rt; ledger.calls[0].reply.outcome, Outcome::Queued(1));
     assert_eq!(rt; ledger.taken.len(), 2);
@@ -345,7 +397,7 @@ fn long_inputs_are_taken_whole_and_cut_outputs_keep_a_front(rt: HostRuntime) -> 
     for (puts, status, length) in [(&[][..], 0, 1_500_000), (&[101][..], 6, 409_600)] {
         let mut files = all_files(alloc, &[])?;
         files.add("long", &script)?;
-        let ran = ask(alloc, &["replay", "hest", "-", "long"], files, puts)?;
+        let ran = ask_alone(alloc, &["replay", "hest", "-", "long"], files, puts)?;
         assert_eq!(rt; ran.end.status, status);
         assert_eq!(rt; ran.out.written().len() / 4096, length / 4096);
         assert!(rt; ran.end.ledger.is_some());

@@ -64,12 +64,8 @@ impl Cache {
     }
 
     // Whether two places or more have so many bytes.
-    fn has_two_of(&self, count: usize) -> bool {
-        let first = u8::from(self.first.len() == count);
-        let second = u8::from(self.second.len() == count);
-        let third = u8::from(self.third.len() == count);
-        let fourth = u8::from(self.fourth.len() == count);
-        first + second + third + fourth > 1
+    fn has_twins_of(&self, count: usize) -> bool {
+        self.first.is_twin(count) || self.second.is_twin(count) || self.third.is_twin(count)
     }
 
     #[tactic(auto, unfolding(crate::specs::Cache::hit_of))]
@@ -77,7 +73,7 @@ impl Cache {
         ensures { result ≡ hit_of self.now.places bytes.now now }
     {
         // With a sum at hand the bytes of most places are not compared.
-        let total = if self.has_two_of(bytes.len()) {
+        let total = if self.has_twins_of(bytes.len()) {
             Some(byte_sum(bytes))
         } else {
             None
@@ -95,6 +91,22 @@ impl Cache {
             return Some(self.fourth.number());
         }
         None
+    }
+
+    // Tells each place whether another one has as many bytes.
+    fn tell_twins(&mut self)
+        ensures { self.new ≡ self.old }
+    {
+        let lengths = [
+            self.first.len(),
+            self.second.len(),
+            self.third.len(),
+            self.fourth.len(),
+        ];
+        self.first.tell_twin(&lengths);
+        self.second.tell_twin(&lengths);
+        self.third.tell_twin(&lengths);
+        self.fourth.tell_twin(&lengths);
     }
 
     #[tactic(auto, unfolding(crate::specs::Cache::first_at))]
@@ -209,6 +221,7 @@ impl Cache {
             3 => self.fourth.set(bytes, now, number),
             _ => {}
         }
+        self.tell_twins();
     }
 
     /// Becomes equal to another cache of the same room. It takes no memory.

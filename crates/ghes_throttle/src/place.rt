@@ -23,6 +23,8 @@ pub(crate) fn byte_sum(bytes: &[u8]) -> u8
 #[derive(Drop)]
 pub(crate) struct Place {
     full: bool,
+    /// Whether another place of its cache has as many bytes. It spares time and decides nothing.
+    twin: bool,
     bytes: Vec<u8>,
     /// What the bytes add up to, modulo 256.
     total: u8,
@@ -49,6 +51,7 @@ impl Place {
     {
         Ok(Place {
             full: false,
+            twin: false,
             bytes: Vec::with_capacity(alloc, room)?,
             total: 0,
             time: 0,
@@ -85,6 +88,19 @@ impl Place {
     /// How many bytes it has.
     pub(crate) fn len(&self) -> usize {
         self.bytes.len()
+    }
+
+    /// It has so many bytes, and was told that another place has as many.
+    pub(crate) fn is_twin(&self, count: usize) -> bool {
+        self.bytes.len() == count && self.twin
+    }
+
+    /// Is told how many bytes each place has, its own among them.
+    pub(crate) fn tell_twin(&mut self, lengths: &[usize; 4])
+        ensures { self.new ≡ self.old }
+    {
+        let own = self.bytes.len();
+        self.twin = lengths.iter().filter(|&&length| length == own).count() > 1;
     }
 
     // It has a report of these bytes, from within the window before this time.
@@ -144,5 +160,6 @@ impl Place {
     {
         self.hold(&other.bytes, other.total, other.time, other.number);
         self.full = other.full;
+        self.twin = other.twin;
     }
 }

@@ -1,6 +1,7 @@
 -- What follows from how a listing ends.
 use Rattle.std.proofs.Common.{◌∷◌, [], codes, refl}
-use Rattle.ghes_replay.specs.Run.{bare_end}
+use Rattle.ghes_replay.specs.Hearing.{Untold}
+use Rattle.ghes_replay.specs.Run.{bare_end, end_of}
 use Rattle.ghes_replay.specs.Seen.{outside}
 use Rattle.ghes_replay.specs.Task.{Check, IsFileOf, IsFileWord}
 use Rattle.ghes_replay.proofs.BareLemmas.{check_ends, check_statuses}
@@ -12,25 +13,25 @@ pub returns-clause-ends : goal.returns-clause-ends
 returns-clause-ends g c =
     let before = outside (g.F.Files.seen c.args.files.now) (g.K.Sink.seen c.args.out.now) in
     let after = outside (g.F.Files.seen c.run_task.new.files) (g.K.Sink.seen c.run_task.new.out) in
-    check_ends c.args.hest.now c.args.einj.now before after c.run_task.result c.run_task.ensures.ends
+    check_ends c.args.hest.now c.args.einj.now before after c.run_task.ensures.ends.0 (end_of c.run_task.result) c.run_task.ensures.ends.1
 
 pub returns-clause-done : goal.returns-clause-done
 returns-clause-done g c =
     let before = outside (g.F.Files.seen c.args.files.now) (g.K.Sink.seen c.args.out.now) in
     let after = outside (g.F.Files.seen c.run_task.new.files) (g.K.Sink.seen c.run_task.new.out) in
-    is_listed (codes "check" ∷ c.args.hest.now ∷ c.args.einj.now ∷ []) before after c.run_task.result.status (check_ends c.args.hest.now c.args.einj.now before after c.run_task.result c.run_task.ensures.ends)
+    is_listed (codes "check" ∷ c.args.hest.now ∷ c.args.einj.now ∷ []) before after c.run_task.result.status (check_ends c.args.hest.now c.args.einj.now before after c.run_task.ensures.ends.0 (end_of c.run_task.result) c.run_task.ensures.ends.1)
 
 pub returns-clause-statuses : goal.returns-clause-statuses
 returns-clause-statuses g c =
     let before = outside (g.F.Files.seen c.args.files.now) (g.K.Sink.seen c.args.out.now) in
     let after = outside (g.F.Files.seen c.run_task.new.files) (g.K.Sink.seen c.run_task.new.out) in
-    check_statuses c.args.hest.now c.args.einj.now before after c.run_task.result c.run_task.ensures.ends
+    check_statuses c.args.hest.now c.args.einj.now before after c.run_task.ensures.ends.0 (end_of c.run_task.result) c.run_task.ensures.ends.1
 
 pub returns-clause-put_failed : goal.returns-clause-put_failed
 returns-clause-put_failed g c =
     let before = outside (g.F.Files.seen c.args.files.now) (g.K.Sink.seen c.args.out.now) in
     let after = outside (g.F.Files.seen c.run_task.new.files) (g.K.Sink.seen c.run_task.new.out) in
-    put_failed (codes "check" ∷ c.args.hest.now ∷ c.args.einj.now ∷ []) before after (bare_end c.run_task.result.status) (check_ends c.args.hest.now c.args.einj.now before after c.run_task.result c.run_task.ensures.ends)
+    put_failed (codes "check" ∷ c.args.hest.now ∷ c.args.einj.now ∷ []) before after Untold (bare_end c.run_task.result.status) (check_ends c.args.hest.now c.args.einj.now before after c.run_task.ensures.ends.0 (end_of c.run_task.result) c.run_task.ensures.ends.1)
 
 pub returns-clause-loads : goal.returns-clause-loads
 returns-clause-loads g c =
@@ -40,16 +41,16 @@ pub returns-clause-failed : goal.returns-clause-failed
 returns-clause-failed g c =
     let before = outside (g.F.Files.seen c.args.files.now) (g.K.Sink.seen c.args.out.now) in
     let after = outside (g.F.Files.seen c.run_task.new.files) (g.K.Sink.seen c.run_task.new.out) in
-    failed_load (codes "check" ∷ c.args.hest.now ∷ c.args.einj.now ∷ []) before after (bare_end c.run_task.result.status) (check_ends c.args.hest.now c.args.einj.now before after c.run_task.result c.run_task.ensures.ends)
+    failed_load (codes "check" ∷ c.args.hest.now ∷ c.args.einj.now ∷ []) before after Untold (bare_end c.run_task.result.status) (check_ends c.args.hest.now c.args.einj.now before after c.run_task.ensures.ends.0 (end_of c.run_task.result) c.run_task.ensures.ends.1)
 
 pub returns-clause-bad_table : goal.returns-clause-bad_table
 returns-clause-bad_table g c =
     let before = outside (g.F.Files.seen c.args.files.now) (g.K.Sink.seen c.args.out.now) in
     let after = outside (g.F.Files.seen c.run_task.new.files) (g.K.Sink.seen c.run_task.new.out) in
-    bad_table (codes "check" ∷ c.args.hest.now ∷ c.args.einj.now ∷ []) before after (bare_end c.run_task.result.status) (check_ends c.args.hest.now c.args.einj.now before after c.run_task.result c.run_task.ensures.ends)
+    bad_table (codes "check" ∷ c.args.hest.now ∷ c.args.einj.now ∷ []) before after Untold (bare_end c.run_task.result.status) (check_ends c.args.hest.now c.args.einj.now before after c.run_task.ensures.ends.0 (end_of c.run_task.result) c.run_task.ensures.ends.1)
 
 pub returns-clause-complete : goal.returns-clause-complete
 returns-clause-complete g c =
     let before = outside (g.F.Files.seen c.args.files.now) (g.K.Sink.seen c.args.out.now) in
     let after = outside (g.F.Files.seen c.run_task.new.files) (g.K.Sink.seen c.run_task.new.out) in
-    is_complete (codes "check" ∷ c.args.hest.now ∷ c.args.einj.now ∷ []) before after (bare_end c.run_task.result.status) (check_ends c.args.hest.now c.args.einj.now before after c.run_task.result c.run_task.ensures.ends)
+    is_complete (codes "check" ∷ c.args.hest.now ∷ c.args.einj.now ∷ []) before after Untold (bare_end c.run_task.result.status) (check_ends c.args.hest.now c.args.einj.now before after c.run_task.ensures.ends.0 (end_of c.run_task.result) c.run_task.ensures.ends.1)
