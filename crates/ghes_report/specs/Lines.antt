@@ -1,5 +1,5 @@
 -- The lines of calls and of taken blocks, as functions of the ids of the sources and the reports (own choice).
-use Rattle.std.specs.Prelude.{ℕ, ◌-◌, List, [], ◌++◌, take, drop, slice_get, codes, Option, Some, None}
+use Rattle.std.specs.Prelude.{ℕ, ◌-◌, List, [], ◌∷◌, ◌++◌, take, drop, slice_get, codes, Option, Some, None}
 use Rattle.std.specs.Fmt.{decimal}
 use Rattle.cper_block.specs.Text.{malformed_text}
 use Rattle.ghes_call.specs.declared.call.AckState.{AckState}
