@@ -8,12 +8,18 @@ import subprocess
 
 TOP = os.path.dirname(os.path.dirname(os.path.abspath(__file__)))
 PROGRAM = os.path.join(TOP, "crates/look_bench/out/look_bench")
-REPORTS = 1000
+# The length of the block that is looked for, what it is to the four reports, and in words.
+KINDS = (
+    (20, "other", "of another length"),
+    (164, "other", "that differs from each report in its last byte"),
+    (164, "alone", "that hits the only report of its length"),
+    (164, "hit", "that hits, where each report has its length"),
+)
 
 
-def instructions(length, each):
+def instructions(length, what, reports, each):
     """How many instructions a run takes, with so many looks for a block of this length after each report."""
-    words = [str(length), str(REPORTS), str(each)]
+    words = [str(length), str(reports), str(each), what]
     told = subprocess.run(
         ["valgrind", "--tool=callgrind", f"--callgrind-out-file={os.devnull}", PROGRAM, *words],
         stdout=subprocess.DEVNULL, stderr=subprocess.PIPE, text=True, check=True).stderr
@@ -21,10 +27,14 @@ def instructions(length, each):
 
 
 def main():
-    for length, what in ((20, "of another length"), (164, "that differs in its last byte")):
-        none, one, two = (instructions(length, each) for each in (0, 1, 2))
-        print(f"a look for a block {what}: {(two - one) / REPORTS:.0f} instructions,"
-              f" {(one - none) / REPORTS:.0f} where the cache has changed")
+    for length, what, said in KINDS:
+        # Of 1,000 reports each takes the first place; of four, each one of its own, which an `alone` one keeps.
+        reports = 4 if what == "alone" else 1000
+        none, few, many = (instructions(length, what, reports, each) for each in (0, 1000 // reports, 2000 // reports))
+        print(f"a look for a block {said}: {(many - few) / 1000:.0f} instructions", end="")
+        if what == "other":
+            print(f", {(few - none) / 1000:.0f} where the cache has changed", end="")
+        print()
 
 
 if __name__ == "__main__":
