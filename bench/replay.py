@@ -17,17 +17,18 @@ import tempfile
 from measure import MIB, PROGRAM, TOP, callgrind, instructions, timed
 
 TABLE = os.path.join(TOP, "crates/ghes/data/hest.bin")
-# A corrected memory error in one data entry, 164 bytes.
+# A corrected memory error in one data entry, 164 bytes. NNNNNNNN stands for digits that no other unit has, so that no block is a
+# duplicate of one before it.
 MEMORY = (
     "1200000000000000000000009000000002000000" "1411bca5646fde4eb8633e83ed7c83b1"
     "020000000102000050000000" + "00" * 36 + "06400000000000000000000000000000"
-    "0050341200000000" "00f0ffffffffffff" + "00" * 40 + "0200000000000000"
+    "NNNNNNNN12000000" "00f0ffffffffffff" + "00" * 40 + "0200000000000000"
 )
 BLOCKS = 65_536
 # Lines, and how many instructions they may take from script to text.
 SHAPES = {
     "nmi lines": ("nmi 1\n", 900),
-    "raise, nmi, work": ("raise 1 0200000000000000000000000000000002000000\nnmi 1\nwork\n", 6_500),
+    "raise, nmi, work": ("raise 1 NNNNNNNN00000000000000000000000002000000\nnmi 1\nwork\n", 6_500),
     "raise, nmi, work of a memory block": (f"raise 1 {MEMORY}\nnmi 1\nwork\n", 12_000),
 }
 
@@ -37,7 +38,11 @@ def script(folder, unit, size, end=""):
     count = size // len(unit)
     path = os.path.join(folder, f"{len(unit)}-{size}{end}")
     with open(path, "w") as out:
-        out.write(unit * count + end)
+        if "NNNNNNNN" in unit:
+            out.writelines(unit.replace("NNNNNNNN", f"{number + 1:08x}") for number in range(count))
+        else:
+            out.write(unit * count)
+        out.write(end)
     return path, count * len(unit), count
 
 
