@@ -8,18 +8,18 @@ import subprocess
 
 TOP = os.path.dirname(os.path.dirname(os.path.abspath(__file__)))
 PROGRAM = os.path.join(TOP, "crates/look_bench/out/look_bench")
-# The length of the block that is looked for, what it is to the four reports, and in words.
+# The length of the block that is looked for, what it is, and in words.
 KINDS = (
     (20, "other", "of another length"),
     (164, "other", "that differs from each report in its last byte"),
-    (164, "alone", "that hits the only report of its length"),
-    (164, "hit", "that hits, where each report has its length"),
+    (164, "0", "that hits in the first place"),
+    (164, "3", "that hits in the last of four places"),
 )
 
 
-def instructions(length, what, reports, each):
-    """How many instructions a run takes, with so many looks for a block of this length after each report."""
-    words = [str(length), str(reports), str(each), what]
+def instructions(length, what, reports, each, last):
+    """How many instructions a run takes, with so many looks after each report, and so many more after the last."""
+    words = [str(length), str(reports), str(each), str(last), what]
     told = subprocess.run(
         ["valgrind", "--tool=callgrind", f"--callgrind-out-file={os.devnull}", PROGRAM, *words],
         stdout=subprocess.DEVNULL, stderr=subprocess.PIPE, text=True, check=True).stderr
@@ -28,12 +28,12 @@ def instructions(length, what, reports, each):
 
 def main():
     for length, what, said in KINDS:
-        # Of 1,000 reports each takes the first place; of four, each one of its own, which an `alone` one keeps.
-        reports = 4 if what == "alone" else 1000
-        none, few, many = (instructions(length, what, reports, each) for each in (0, 1000 // reports, 2000 // reports))
+        # Of four reports each takes a place of its own; of more than four each one more takes the first place.
+        few, many = (instructions(length, what, 4, 0, looks) for looks in (1000, 2000))
         print(f"a look for a block {said}: {(many - few) / 1000:.0f} instructions", end="")
         if what == "other":
-            print(f", {(few - none) / 1000:.0f} where the cache has changed", end="")
+            none, one = (instructions(length, what, 1000, each, 0) for each in (0, 1))
+            print(f", {(one - none) / 1000:.0f} where the cache has changed", end="")
         print()
 
 

@@ -4,7 +4,7 @@ use Rattle.std.proofs.lemmas.Bool.{false_from_ne_true}
 use Rattle.std.proofs.lemmas.Bool.Decides.{Decides-eqb}
 use Rattle.std.proofs.lemmas.Slice.Eq.{slice_eq-Decides}
 use lib.Pointwise.{pointwise}
-use Rattle.ghes_throttle.specs.Cache.{PlaceState, first_at, place_for, is_empty, is_over, is_least, hits, window}
+use Rattle.ghes_throttle.specs.Cache.{PlaceState, first_at, place_for, is_empty, is_over, is_least, hits, window, sample_of}
 
 -- a number that is one more is below a length that is one more
 one_more : (o : Option ℕ) (n : ℕ) → IfSome o (λ i. i < n) → IfSome (option_map suc o) (λ i. i < suc n)
@@ -36,6 +36,12 @@ other_bytes true true true same h = h
 other_bytes true true false same h = refl
 other_bytes true false late same h = refl
 other_bytes false early late same h = refl
+
+-- a place whose bytes have another sample does not hit
+pub other_sample : (p : PlaceState) (bytes : List ℕ) (now : ℕ) → sample_of p.bytes ≢ sample_of bytes → hits bytes now p ≡ false
+other_sample p bytes now other =
+    other_bytes p.full (nat_le p.time now) (nat_lt (now - p.time) window) (pointwise nat_eq p.bytes bytes)
+    (false_from_ne_true _ (λ e. other (ap sample_of ((slice_eq-Decides Decides-eqb p.bytes bytes _ refl).0 e))))
 
 -- a place whose bytes add up to something else does not hit
 pub other_sum : (p : PlaceState) (bytes : List ℕ) (now : ℕ) → sum p.bytes % 256 ≢ sum bytes % 256 → hits bytes now p ≡ false

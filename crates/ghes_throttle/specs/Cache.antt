@@ -1,5 +1,6 @@
 -- The report cache: which of its places answers, and which of them a report takes.
-use Rattle.std.specs.Prelude.{ℕ, ◌-◌, ◌&&◌, not, nat_eq, nat_lt, nat_le, Bool, true, false, List, [], ◌∷◌, if◌then◌else◌, Option, Some, None, unwrap_or, option_map, slice_set, suc}
+use Rattle.std.specs.Prelude.{ℕ, ◌+◌, ◌-◌, ◌%◌, ◌^◌, ◌&&◌, not, nat_eq, nat_lt, nat_le, Bool, true, false, List, [], ◌∷◌, length, drop, if◌then◌else◌, Option, Some, None, unwrap_or, option_map, slice_set, suc}
+use Rattle.byteorder.specs.Endian.{little_number}
 use lib.Pointwise.{pointwise}
 
 -- what a place holds: a report, with its time in nanoseconds and its number, if it is full (own choice)
@@ -18,6 +19,13 @@ pub record PlaceBuffer : Type 0 where
 pub record CacheState : Type 0 where
   pub places : List PlaceState
   pub block_len : ℕ
+
+-- two words of a block, added: the first and the last of its last 64 bytes, and 0 where there are fewer. It spares comparisons and
+-- decides nothing (own choice)
+unfoldable pub sample_of : List ℕ → ℕ
+sample_of bytes =
+    if nat_lt (length bytes) 64 then 0
+    else ((little_number 8 (drop (length bytes - 64) bytes) + little_number 8 (drop 56 (drop (length bytes - 64) bytes))) % 2 ^ 64)
 
 -- a place with no report (own choice)
 abbrev pub empty_place : PlaceState

@@ -4,7 +4,7 @@ ghost use Rattle.ghes_throttle.specs.declared.report.Report.{Report};
 ghost use Rattle.ghes_throttle.specs.Cache.{CacheState, empty_places, first_at, is_empty, is_over, is_least, hit_of, place_for, with_put, put_into};
 ghost use Rattle.ghes_throttle.specs.Reports.{IsCacheOf, hit, with_report};
 
-use crate::place::{Place, byte_sum};
+use crate::place::{Place, byte_sum, sample};
 use std::alloc::{AllocError, Global};
 use std::marker::Model;
 
@@ -63,21 +63,40 @@ impl Cache {
         self.lowest_hit(bytes, now)
     }
 
-    // Whether two places or more have so many bytes.
-    fn has_twins_of(&self, count: usize) -> bool {
-        self.first.is_twin(count) || self.second.is_twin(count) || self.third.is_twin(count)
-    }
-
     #[tactic(auto, unfolding(crate::specs::Cache::hit_of))]
     fn lowest_hit(&self, bytes: &[u8], now: u64) -> Option<u64>
         ensures { result ≡ hit_of self.now.places bytes.now now }
     {
-        // With a sum at hand the bytes of most places are not compared.
-        let total = if self.has_twins_of(bytes.len()) {
-            Some(byte_sum(bytes))
-        } else {
-            None
-        };
+        let sample = sample(bytes);
+        match self.first.answer(bytes, sample, now) {
+            None => return self.lowest_twin(bytes, now),
+            Some(true) => return Some(self.first.number()),
+            Some(false) => {}
+        }
+        match self.second.answer(bytes, sample, now) {
+            None => return self.lowest_twin(bytes, now),
+            Some(true) => return Some(self.second.number()),
+            Some(false) => {}
+        }
+        match self.third.answer(bytes, sample, now) {
+            None => return self.lowest_twin(bytes, now),
+            Some(true) => return Some(self.third.number()),
+            Some(false) => {}
+        }
+        match self.fourth.answer(bytes, sample, now) {
+            None => self.lowest_twin(bytes, now),
+            Some(true) => Some(self.fourth.number()),
+            Some(false) => None,
+        }
+    }
+
+    // The lowest hit where places have one sample: with the sum at hand the bytes of most are not compared.
+    #[inline(never)]
+    #[tactic(auto, unfolding(crate::specs::Cache::hit_of))]
+    fn lowest_twin(&self, bytes: &[u8], now: u64) -> Option<u64>
+        ensures { result ≡ hit_of self.now.places bytes.now now }
+    {
+        let total = byte_sum(bytes);
         if self.first.hits(bytes, total, now) {
             return Some(self.first.number());
         }
@@ -93,20 +112,20 @@ impl Cache {
         None
     }
 
-    // Tells each place whether another one has as many bytes.
+    // Tells each place whether another one has the same sample.
     fn tell_twins(&mut self)
         ensures { self.new ≡ self.old }
     {
-        let lengths = [
-            self.first.len(),
-            self.second.len(),
-            self.third.len(),
-            self.fourth.len(),
+        let samples = [
+            self.first.sample(),
+            self.second.sample(),
+            self.third.sample(),
+            self.fourth.sample(),
         ];
-        self.first.tell_twin(&lengths);
-        self.second.tell_twin(&lengths);
-        self.third.tell_twin(&lengths);
-        self.fourth.tell_twin(&lengths);
+        self.first.tell_twin(&samples);
+        self.second.tell_twin(&samples);
+        self.third.tell_twin(&samples);
+        self.fourth.tell_twin(&samples);
     }
 
     #[tactic(auto, unfolding(crate::specs::Cache::first_at))]

@@ -1,12 +1,27 @@
 //! One place of the report cache.
 ghost use Rattle.std.specs.Prelude.{◌≡◌, ◌≤◌, ◌<◌, ◌%◌, length, sum, IfOk, IfSome};
-ghost use Rattle.ghes_throttle.specs.Cache.{PlaceBuffer, empty_place, place_with, is_empty, is_over, hits};
+ghost use Rattle.ghes_throttle.specs.Cache.{PlaceBuffer, empty_place, place_with, is_empty, is_over, hits, sample_of};
 
+use byteorder::{ByteOrder, LittleEndian};
 use std::alloc::{AllocError, Global};
 use std::marker::Model;
 
 /// How long a report hits, in nanoseconds.
 const WINDOW: u64 = 10_000_000_000;
+
+/// Two words of a block, added: the first and the last of its last 64 bytes, and 0 where there are fewer.
+///
+/// Blocks that differ in it are not compared. Of a memory error the first is the physical address. Source: UEFI 2.10, N.2.5.
+#[tactic(auto, unfolding(crate::specs::Cache::sample_of))]
+pub(crate) fn sample(bytes: &[u8]) -> u64
+    ensures { result ≡ sample_of bytes.now }
+{
+    if bytes.len() < 64 {
+        return 0;
+    }
+    let last = bytes.split_at(bytes.len() - 64).1;
+    LittleEndian::read_u64(last).wrapping_add(LittleEndian::read_u64(last.split_at(56).1))
+}
 
 /// What the bytes add up to, modulo 256. Blocks that differ in it are not compared.
 pub(crate) fn byte_sum(bytes: &[u8]) -> u8
@@ -23,9 +38,11 @@ pub(crate) fn byte_sum(bytes: &[u8]) -> u8
 #[derive(Drop)]
 pub(crate) struct Place {
     full: bool,
-    /// Whether another place of its cache has as many bytes. It spares time and decides nothing.
+    /// Whether another place of its cache has the same sample. It spares time and decides nothing.
     twin: bool,
     bytes: Vec<u8>,
+    /// The sample of the bytes.
+    sample: u64,
     /// What the bytes add up to, modulo 256.
     total: u8,
     time: u64,
@@ -35,17 +52,18 @@ pub(crate) struct Place {
 
 impl Model for Place {
     ghost use Rattle.std.specs.Prelude.{◌≡◌, ◌≤◌, ◌%◌, sum, vec_len, vec_capacity};
-    ghost use Rattle.ghes_throttle.specs.Cache.{PlaceBuffer};
+    ghost use Rattle.ghes_throttle.specs.Cache.{PlaceBuffer, sample_of};
 
     ghost Value = { PlaceBuffer };
 
     ghost view = { λ p. record { held = record { full = p.full; bytes = p.bytes.items; time = p.time; number = p.number }; room = p.room } };
 
-    ghost invariant = { λ p. (vec_len p.bytes ≤ p.room) × (p.room ≤ vec_capacity p.bytes) × (p.total ≡ sum p.bytes.items % 256) };
+    ghost invariant = { λ p. (vec_len p.bytes ≤ p.room) × (p.room ≤ vec_capacity p.bytes) × (p.total ≡ sum p.bytes.items % 256) × (p.sample ≡ sample_of p.bytes.items) };
 }
 
 impl Place {
     /// An empty place.
+    #[tactic(auto, unfolding(crate::specs::Cache::sample_of))]
     pub(crate) fn new(alloc: Global, room: usize) -> Result<Place, AllocError>
         ensures { IfOk result (λ place. place ≡ record { held = empty_place; room = room }) }
     {
@@ -53,6 +71,7 @@ impl Place {
             full: false,
             twin: false,
             bytes: Vec::with_capacity(alloc, room)?,
+            sample: 0,
             total: 0,
             time: 0,
             number: 0,
@@ -85,22 +104,17 @@ impl Place {
         self.time <= now && now - self.time >= WINDOW
     }
 
-    /// How many bytes it has.
-    pub(crate) fn len(&self) -> usize {
-        self.bytes.len()
+    /// The sample of its bytes.
+    pub(crate) fn sample(&self) -> u64 {
+        self.sample
     }
 
-    /// It has so many bytes, and was told that another place has as many.
-    pub(crate) fn is_twin(&self, count: usize) -> bool {
-        self.bytes.len() == count && self.twin
-    }
-
-    /// Is told how many bytes each place has, its own among them.
-    pub(crate) fn tell_twin(&mut self, lengths: &[usize; 4])
+    /// Is told the sample of each place, its own among them.
+    pub(crate) fn tell_twin(&mut self, samples: &[u64; 4])
         ensures { self.new ≡ self.old }
     {
-        let own = self.bytes.len();
-        self.twin = lengths.iter().filter(|&&length| length == own).count() > 1;
+        let own = self.sample;
+        self.twin = samples.iter().filter(|&&sample| sample == own).count() > 1;
     }
 
     // It has a report of these bytes, from within the window before this time.
@@ -114,31 +128,46 @@ impl Place {
             && self.bytes.as_slice() == bytes
     }
 
-    /// It has a report of these bytes, from within the window before this time.
+    /// Whether it has a report of these bytes, from within the window before this time; none where it was told that another place
+    /// has their sample too.
     ///
-    /// Bytes of another length are not looked at, nor, where it is told what the bytes add up to, of another sum.
-    #[tactic(auto, using(crate::proofs::Places::other_sum))]
-    pub(crate) fn hits(&self, bytes: &[u8], total: Option<u8>, now: u64) -> bool
-        requires { IfSome total (λ t. t ≡ sum bytes.now % 256) }
-        ensures { result ≡ hits bytes.now now self.now.held }
+    /// Bytes of another sample or length are not looked at.
+    #[tactic(auto, using(crate::proofs::Places::other_sample))]
+    pub(crate) fn answer(&self, bytes: &[u8], sample: u64, now: u64) -> Option<bool>
+        requires { sample ≡ sample_of bytes.now }
+        ensures { IfSome result (λ hit. hit ≡ hits bytes.now now self.now.held) }
     {
-        if let Some(total) = total {
-            if self.total != total {
-                return false;
-            }
+        if self.sample != sample {
+            return Some(false);
         }
-        self.holds(bytes, now)
+        if self.twin {
+            return None;
+        }
+        Some(self.holds(bytes, now))
     }
 
-    // Holds a report whose bytes add up to this.
-    fn hold(&mut self, bytes: &[u8], total: u8, time: u64, number: u64)
+    /// It has a report of these bytes, which add up to this, from within the window before this time.
+    ///
+    /// Bytes that add up to something else are not looked at.
+    #[tactic(auto, using(crate::proofs::Places::other_sum))]
+    pub(crate) fn hits(&self, bytes: &[u8], total: u8, now: u64) -> bool
+        requires { total ≡ sum bytes.now % 256 }
+        ensures { result ≡ hits bytes.now now self.now.held }
+    {
+        self.total == total && self.holds(bytes, now)
+    }
+
+    // Holds a report whose bytes have this sample and add up to this.
+    fn hold(&mut self, bytes: &[u8], sample: u64, total: u8, time: u64, number: u64)
         requires fits { length bytes.now ≤ self.old.room }
+        requires sample { sample ≡ sample_of bytes.now }
         requires total { total ≡ sum bytes.now % 256 }
         ensures { self.new ≡ record { held = place_with bytes.now time number; room = self.old.room } }
     {
         self.bytes.clear();
         let fits = self.bytes.extend_from_slice(bytes).is_ok();
         prove!(fits);
+        self.sample = sample;
         self.total = total;
         self.time = time;
         self.number = number;
@@ -150,7 +179,7 @@ impl Place {
         requires { length bytes.now ≤ self.old.room }
         ensures { self.new ≡ record { held = place_with bytes.now time number; room = self.old.room } }
     {
-        self.hold(bytes, byte_sum(bytes), time, number);
+        self.hold(bytes, sample(bytes), byte_sum(bytes), time, number);
     }
 
     /// Becomes equal to another place. It takes no memory.
@@ -158,7 +187,13 @@ impl Place {
         requires { other.now.room ≡ self.old.room }
         ensures { self.new ≡ other.now }
     {
-        self.hold(&other.bytes, other.total, other.time, other.number);
+        self.hold(
+            &other.bytes,
+            other.sample,
+            other.total,
+            other.time,
+            other.number,
+        );
         self.full = other.full;
         self.twin = other.twin;
     }

@@ -53,16 +53,6 @@ impl ThrottleReader {
         }
     }
 
-    fn looked(self, bytes: &[u8], now: u64) -> (ThrottleReader, Option<u64>)
-        ensures book { result.0.book ≡ self.book }
-        ensures list { IsPrefix self.list result.0.list }
-        ensures hit { result.1 ≡ hit result.0.list bytes.now now }
-    {
-        let reader = self.entered();
-        let found = reader.own.cache.hit(bytes, now);
-        (reader, found)
-    }
-
     fn learned<R: Wait>(self, rt: &R, told: &Told<'_>) -> ThrottleReader
         requires { told.now.book ≡ self.book }
         ensures book { result.book ≡ self.book }
@@ -89,11 +79,8 @@ impl ThrottleReader {
         ensures list { IsPrefix self.old.list self.new.list }
         ensures hit { result ≡ hit self.new.list bytes.now now }
     {
-        replace_with(
-            self,
-            (bytes, now),
-            |reader, ask| reader.looked(ask.0, ask.1),
-        )
+        replace_with(self, (), |reader, _| (reader.entered(), ()));
+        self.own.cache.hit(bytes, now)
     }
 
     /// Sees the list that was told. It takes no memory, and waits until an entry shows that list.

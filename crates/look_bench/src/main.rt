@@ -1,11 +1,12 @@
 //! Looks into the report cache, so that `bench/looks.py` can count what one costs.
 //!
-//! Four words: the length of the block that is looked for, up to 164 bytes, how many reports are made, how many looks
-//! follow each report, and what is looked for: `other`, a block whose last byte no report has, `hit`, one that each report
-//! has, or `alone`, one that one of four reports has, while the others are shorter. The answer is how many looks hit.
+//! Five words: the length of the block that is looked for, up to 164 bytes, how many reports are made, how many looks follow each
+//! report, how many more follow the last, and what is looked for: the number of one of four memory errors, 0 to 3, which differ in
+//! their physical address and are reported in turn; or `other`, a block whose last byte no report has. The answer is how many looks
+//! hit.
 #![tactic(auto)]
 
-ghost use Rattle.std.specs.Prelude.{◌≡◌, ◌≤◌, ◌<◌, ◌+◌, ◌*◌, length};
+ghost use Rattle.std.specs.Prelude.{◌≡◌, ◌<◌, length};
 
 use ghes_throttle::{ThrottleReader, ThrottleWriter, throttle};
 use std::rt::Env;
@@ -14,6 +15,11 @@ use std::{env, io};
 
 /// The length of each report's block, in bytes.
 const LONGEST: usize = 164;
+
+/// Where the physical address stands in the block of a memory error: 16 bytes into its section, which is 84 bytes into the block.
+///
+/// Source: UEFI 2.10, N.2.5 and ACPI 6.5, 18.3.2.7.
+const ADDRESS: usize = 100;
 
 // This word after the program's name, and an empty one where there is none.
 fn word(rt: &(impl Env + AllocGlobal), index: usize) -> String {
@@ -33,21 +39,20 @@ fn looks(reader: &mut ThrottleReader, block: &[u8], times: u64) -> u64 {
     let mut hits = 0u64;
     for _ in 0..times {
         if reader.look(block, 0).is_some() {
-            hits = hits.saturating_add(1);
+            hits = hits.wrapping_add(1);
         }
     }
     hits
 }
 
-// The bytes of the report of this number, 164 or, of three in four, so many less.
-fn reported(bytes: &[u8; LONGEST], index: u32, shorter: bool) -> &[u8]
-    ensures { length result.now ≤ 164 }
-{
-    let less = if shorter { index % 4 } else { 0 };
-    bytes.split_at(LONGEST - less as usize).0
+// The block of a memory error, 164 bytes, at one of four physical addresses.
+fn error_at(index: u32) -> [u8; LONGEST] {
+    let mut block = [7u8; LONGEST];
+    block[ADDRESS] = (index % 4) as u8;
+    block
 }
 
-// Reports so often, with so many looks after each report.
+// Reports so often, with so many looks after each report, and so many more after the last.
 fn reports<R: Wait>(
     rt: &R,
     writer: &mut ThrottleWriter,
@@ -55,29 +60,33 @@ fn reports<R: Wait>(
     block: &[u8],
     times: u32,
     each: u64,
-    shorter: bool,
+    last: u64,
 ) -> u64
     requires { (writer.old.block_len ≡ 164) × (length writer.old.list < 2) }
 {
     let mut hits = 0u64;
-    let bytes = [7; LONGEST];
     for index in 0..times {
-        let _ = writer.report(rt, reported(&bytes, index, shorter), 0);
-        hits = hits.saturating_add(looks(reader, block, each));
+        let _ = writer.report(rt, &error_at(index), 0);
+        hits = hits.wrapping_add(looks(reader, block, each));
     }
-    hits
+    hits.wrapping_add(looks(reader, block, last))
+}
+
+// The block that is looked for, of 164 bytes.
+fn sought(what: &str) -> [u8; LONGEST] {
+    let mut block = error_at(what.parse::<u32>().unwrap_or(0));
+    if what == "other" {
+        block[LONGEST - 1] = 8;
+    }
+    block
 }
 
 fn main(rt: HostRuntime) -> io::Result<()> {
     let length = number(&rt, 1).min(LONGEST as u64) as usize;
     let times = number(&rt, 2).min(1_000_000) as u32;
-    let each = number(&rt, 3);
-    let what = word(&rt, 4);
+    let (each, last) = (number(&rt, 3), number(&rt, 4));
+    let block = sought(word(&rt, 5).as_str());
     let (mut writer, mut readers) = throttle(&rt, rt.alloc(), LONGEST, 1)?;
-    let mut block = [7u8; LONGEST];
-    if what.as_str() == "other" {
-        block[LONGEST - 1] = 8;
-    }
     let hits = reports(
         &rt,
         &mut writer,
@@ -85,7 +94,7 @@ fn main(rt: HostRuntime) -> io::Result<()> {
         &block[..length],
         times,
         each,
-        what.as_str() == "alone",
+        last,
     );
     writer.end(&rt);
     println!(rt; "{hits} hits")
