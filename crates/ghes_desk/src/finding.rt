@@ -9,7 +9,7 @@ ghost use Rattle.ghes_desk.specs.Found.{Finds, IsFound};
 use apei_base::{BusFault, Firmware};
 use cper_block::Header;
 use ghes_call::Buffer;
-use ghes_nmi::{Examined, Receive, examine, peek, read_header, read_rest};
+use ghes_nmi::{Examined, Receive, examine_rest, peek, read_header, read_rest};
 use ghes_steps::Steps;
 use std::sync::ledger::Ledger;
 
@@ -41,7 +41,8 @@ fn take_image<P: Firmware, L: Ledger>(
     ensures count { CountsFaults result (P.faults port.old) (P.faults port.new) }
     ensures cost { steps.new ≤ steps.old + 1 }
 {
-    match Header::read(header).check(receive.limit) {
+    let front = Header::read(header);
+    match front.check(receive.limit) {
         Err(reason) => {
             image.fill(header);
             Ok(Found {
@@ -53,7 +54,7 @@ fn take_image<P: Firmware, L: Ledger>(
             read_rest(address, header, count as usize, image, port, steps)?;
             Ok(Found {
                 address,
-                said: examine(image.as_slice(), receive.limit),
+                said: examine_rest(image.as_slice(), &front),
             })
         }
     }
