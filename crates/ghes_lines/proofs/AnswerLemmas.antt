@@ -20,7 +20,7 @@ use Rattle.ghes_ledger.specs.Queue.{queue, acknowledged, standing}
 use Rattle.ghes_ledger.specs.Reports.{hit}
 use Rattle.ghes_ledger.specs.declared.ledger.Report.{Report}
 use Rattle.ghes_nmi.specs.Steps.{failure_of}
-use Rattle.ghes_lines.specs.Call.{ack_by, saw_by}
+use Rattle.ghes_desk.specs.Call.{ack_by, saw_by}
 use Rattle.ghes_lines.specs.Follows.{IsTied}
 use Rattle.ghes_call.specs.declared.call.Call.{Call}
 

@@ -4,7 +4,7 @@ use Rattle.std.specs.Prelude.{Result, Ok, Err, OnOk}
 use Rattle.apei_base.specs.Bus.{Reach}
 use Rattle.apei_base.specs.Firmware.{Seen, FitsAck}
 use Rattle.ghes_ledger.specs.History.{Act, Executed}
-use Rattle.ghes_lines.specs.Desk.{DeskSeen}
+use Rattle.ghes_desk.specs.Desk.{DeskSeen}
 use Rattle.ghes_lines.specs.Follows.{Follows}
 use Rattle.ghes_lines.specs.Lines.{GoesOn, GoesOnTelling}
 use Rattle.fw_port.specs.Port.{cell_of}

@@ -21,11 +21,11 @@ use Rattle.ghes_ledger.specs.declared.ledger.InjectionEnd.{InjectionEnd}
 use Rattle.ghes_ledger.specs.declared.ledger.InjectionEnd.TheVariants.{Made as InjectionMade, NotAvailable, Busy, Status, Trigger, NoAddress}
 use Rattle.ghes_nmi.specs.Receive.{receive_seen}
 use Rattle.ghes_lines.specs.Injector.{IsWithoutBlock}
-use Rattle.ghes_lines.specs.Desk.{DeskSeen, worked, marked, drained}
+use Rattle.ghes_desk.specs.Desk.{DeskSeen, worked, marked, drained}
 use Rattle.ghes_lines.specs.Follows.{blocks_in, IsTied, IsAccount, Follows}
 use Rattle.ghes_lines.specs.Machine.{plan_of}
 use Rattle.fw_port.specs.Port.{raised}
-use Rattle.ghes_lines.specs.Port.{IsPlanned}
+use Rattle.ghes_desk.specs.Port.{IsPlanned}
 use Rattle.ghes_lines.specs.declared.machine.Machine.{Machine}
 use Rattle.ghes_lines.specs.declared.machine.Source.{Source}
 use Rattle.ghes_lines.proofs.LineLemmas.{at_set, few_of, account_still, account_work, account_end, quiet_line, lawful_quiet, taking_line, drained_is, tells_more, by_source_none}

@@ -9,7 +9,7 @@ use Rattle.ghes_call.specs.Receive.{IsOfSource}
 use Rattle.ghes_ledger.specs.History.{Made, Executed}
 use Rattle.ghes_ledger.specs.Queue.{blocks_of, queue}
 use Rattle.ghes_nmi.specs.Receive.{receive_seen}
-use Rattle.ghes_lines.specs.Desk.{DeskSeen}
+use Rattle.ghes_desk.specs.Desk.{DeskSeen}
 use Rattle.ghes_lines.specs.Follows.{blocks_in, Follows}
 use Rattle.ghes_lines.specs.declared.machine.Machine.{Machine}
 use Rattle.ghes_lines.specs.declared.machine.Source.{Source}

@@ -1,16 +1,12 @@
 mod AnswerLemmas
-mod CacheLemmas
 mod ExecLemmas
 mod FollowsLemmas
-mod FoundLemmas
 mod FreshLemmas
 mod LedLemmas
 mod LineLemmas
 mod MidwayLemmas
 mod NmiFollows
 mod NmiLemmas
-mod OutcomeLemmas
-mod RoomLemmas
 mod RunFollows
 mod RunningLemmas
 mod ScriptLemmas

@@ -21,7 +21,7 @@ use Rattle.ghes_ledger.specs.Reports.{hit, reports_in, reports_at}
 use Rattle.ghes_ledger.specs.declared.ledger.PanicEntry.{PanicEntry}
 use Rattle.ghes_ledger.specs.declared.ledger.Report.{Report}
 use Rattle.ghes_ledger.specs.declared.ledger.Taken.{Taken}
-use Rattle.ghes_lines.specs.Desk.{drained}
+use Rattle.ghes_desk.specs.Desk.{drained}
 use Rattle.ghes_lines.specs.Follows.{IsAccount}
 
 -- what holds of the one element of a list that changed, and of all others

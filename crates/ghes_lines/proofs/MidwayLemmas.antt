@@ -11,12 +11,12 @@ use Rattle.ghes_ledger.specs.Reports.{reports_in}
 use Rattle.ghes_ledger.specs.Turns.{IsMadeBy}
 use Rattle.ghes_ledger.specs.declared.ledger.Mark.{Mark}
 use Rattle.ghes_nmi.specs.Receive.{receive_seen}
-use Rattle.ghes_lines.specs.Desk.{DeskSeen, IsAnswered, IsNmi, IsTurn, entered, marked, panicked_by, with_packets}
-use Rattle.ghes_lines.specs.Call.{standing_packet, queued_by}
+use Rattle.ghes_desk.specs.Desk.{DeskSeen, IsAnswered, IsNmi, IsTurn, entered, marked, panicked_by, with_packets}
+use Rattle.ghes_desk.specs.Call.{stopped_reply, standing_packet, queued_by}
 use Rattle.ghes_lines.specs.Follows.{Follows}
 use Rattle.ghes_lines.specs.Lines.{IsAt}
 use Rattle.ghes_lines.specs.Machine.{FitsSource, first_cell, plan_of}
-use Rattle.ghes_lines.specs.Midway.{in_order, line_by_line, stopped_reply, with_lists, moved_to, IsMidway, Continues, IsAmid}
+use Rattle.ghes_lines.specs.Midway.{in_order, line_by_line, with_lists, moved_to, IsMidway, Continues, IsAmid}
 use Rattle.ghes_lines.specs.declared.machine.Machine.{Machine}
 use Rattle.ghes_lines.specs.declared.machine.Source.{Source}
 use Rattle.ghes_lines.proofs.NmiFollows.{source_in, follows_nmi}

@@ -26,11 +26,11 @@ use Rattle.ghes_ledger.specs.Queue.{queue, acknowledged, standing, faulty_calls,
 use Rattle.ghes_ledger.specs.Reports.{reports_in}
 use Rattle.ghes_ledger.specs.declared.ledger.PanicEntry.{PanicEntry}
 use Rattle.ghes_nmi.specs.Receive.{receive_seen}
-use Rattle.ghes_lines.specs.Call.{standing_packet, queued_by, fatal_by}
-use Rattle.ghes_lines.specs.Desk.{DeskSeen, IsNmi, marked, entered, panicked_by, with_packets}
+use Rattle.ghes_desk.specs.Call.{standing_packet, queued_by, fatal_by}
+use Rattle.ghes_desk.specs.Desk.{DeskSeen, IsNmi, marked, entered, panicked_by, with_packets}
 use Rattle.ghes_lines.specs.Follows.{blocks_in, IsTied, IsAccount, Follows}
 use Rattle.ghes_lines.specs.Machine.{limit_of, server_of, rule_of, first_cell, cell_after, plan_of, FitsSource}
-use Rattle.ghes_lines.specs.Pending.{is_full}
+use Rattle.ghes_desk.specs.Pending.{is_full}
 use Rattle.ghes_lines.specs.declared.machine.Machine.{Machine}
 use Rattle.ghes_lines.specs.declared.machine.Source.{Source}
 use Rattle.ghes_lines.proofs.AnswerLemmas.{IsFor, IsFree}

@@ -19,9 +19,9 @@ use Rattle.ghes_ledger.specs.Queue.{block_at, queue, standing}
 use Rattle.ghes_ledger.specs.Reports.{hit}
 use Rattle.ghes_call.specs.declared.call.AckState.TheVariants.{NotAsked}
 use Rattle.ghes_nmi.specs.Steps.{CountsAck}
-use Rattle.ghes_lines.specs.Pending.{is_full}
-use Rattle.ghes_lines.specs.Call.{standing_packet}
-use Rattle.ghes_lines.specs.Desk.{DeskSeen, IsAnswered}
+use Rattle.ghes_desk.specs.Pending.{is_full}
+use Rattle.ghes_desk.specs.Call.{standing_packet}
+use Rattle.ghes_desk.specs.Desk.{DeskSeen, IsAnswered}
 use Rattle.ghes_lines.specs.Follows.{IsTied}
 use Rattle.ghes_lines.specs.Machine.{cell_after}
 use Rattle.ghes_lines.proofs.AnswerLemmas.{standing_is, stands_idle, fault_or, Says, says_call, look_call, asked_is}

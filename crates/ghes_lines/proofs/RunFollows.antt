@@ -33,10 +33,11 @@ use Rattle.ghes_ledger.specs.declared.ledger.PanicEntry.{PanicEntry}
 use Rattle.ghes_ledger.specs.declared.ledger.Report.{Report}
 use Rattle.ghes_ledger.specs.declared.ledger.Taken.{Taken}
 use Rattle.ghes_nmi.specs.Receive.{receive_seen}
-use Rattle.ghes_lines.specs.Desk.{DeskSeen, drained, worked, marked, entered_on, entered_by}
+use Rattle.ghes_desk.specs.Call.{stopped_reply}
+use Rattle.ghes_desk.specs.Desk.{DeskSeen, drained, worked, marked, entered_on, entered_by}
 use Rattle.ghes_lines.specs.Follows.{blocks_in, IsTied, IsAccount, Follows}
 use Rattle.ghes_lines.specs.Machine.{plan_of}
-use Rattle.ghes_lines.specs.Midway.{in_order, line_by_line, stopped_reply, IsStopped, with_lists, moved_to, IsMidway}
+use Rattle.ghes_lines.specs.Midway.{in_order, line_by_line, IsStopped, with_lists, moved_to, IsMidway}
 use Rattle.ghes_lines.specs.declared.machine.Machine.{Machine}
 use Rattle.ghes_lines.specs.declared.machine.Source.{Source}
 use Rattle.ghes_lines.proofs.FollowsLemmas.{none_fatal, tied_with}

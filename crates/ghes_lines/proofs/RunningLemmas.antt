@@ -18,7 +18,7 @@ use Rattle.ghes_ledger.specs.declared.ledger.PanicEntry.{PanicEntry}
 use Rattle.ghes_script.specs.declared.line.Line.{Line}
 use Rattle.ghes_script.specs.declared.line.What.{What}
 use Rattle.ghes_script.specs.declared.line.What.TheVariants as asks
-use Rattle.ghes_lines.specs.Desk.{DeskSeen, new_desk}
+use Rattle.ghes_desk.specs.Desk.{DeskSeen, new_desk}
 use Rattle.ghes_lines.specs.Follows.{blocks_in, Follows}
 use Rattle.ghes_lines.specs.Injector.{request_of, requests_of, injection_by, injections_in, Injections}
 use Rattle.ghes_lines.specs.Lines.{asks_of, act_of, Executes, GoesOn, InjectsBy, IsLed, IsStopAt}

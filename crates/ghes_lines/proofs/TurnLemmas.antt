@@ -6,6 +6,7 @@ use Rattle.std.proofs.lemmas.Bool.{eq-eqb, ne_eqb, cases_lt}
 use Rattle.std.proofs.lemmas.List.Concat.{flat_map-append}
 use Rattle.std.proofs.lemmas.List.Elements.{filter-append}
 use Rattle.ghes_call.specs.declared.call.Call.{Call}
+use Rattle.ghes_desk.proofs.RangeLemmas.{range_step}
 use Rattle.ghes_ledger.proofs.CallsAlike.{range-add}
 use Rattle.ghes_ledger.specs.History.{of_context}
 use Rattle.ghes_ledger.specs.Outcomes.{ends_turns}
@@ -165,9 +166,6 @@ servers_below block_len machine is s inside =
 -- the sources from a position on
 abbrev pub served_from : Plan → ℕ → ℕ → List ℕ
 served_from plan c at = filter (λ s. eqb (plan.server s) c) (range_with_len at (plan.sources - at))
-
-pub range_step : (at n : ℕ) → at < n → range_with_len at (n - at) ≡ at ∷ range_with_len (at + 1) (n - (at + 1))
-range_step at n less = let more : n - at ≡ suc (n - (at + 1)) = omega (arith, less) in ap (range_with_len at) more
 
 cond_front : (b : Bool) (s : ℕ) (rest more : List ℕ) → cond b (s ∷ rest) rest ++ more ≡ cond b (s ∷ (rest ++ more)) (rest ++ more)
 cond_front true s rest more = refl

@@ -12,7 +12,7 @@ use Rattle.ghes_ledger.specs.Plan.{Plan}
 use Rattle.ghes_ledger.specs.Queue.{queue, numbers_of, acknowledged, stuck_calls, faulty_calls, fails_in}
 use Rattle.ghes_ledger.specs.declared.ledger.PanicEntry.{PanicEntry}
 use Rattle.ghes_nmi.specs.Receive.{receive_seen}
-use Rattle.ghes_lines.specs.Desk.{DeskSeen}
+use Rattle.ghes_desk.specs.Desk.{DeskSeen}
 use Rattle.ghes_lines.specs.Machine.{plan_of}
 use Rattle.ghes_lines.specs.declared.machine.Machine.{Machine}
 use Rattle.ghes_lines.specs.declared.machine.Source.{Source}

@@ -1,12 +1,6 @@
-pub mod Cache
-pub mod Call
-pub mod Desk
 pub mod Follows
-pub mod Found
 pub mod Injector
 pub mod Lines
 pub mod Machine
 pub mod Midway
-pub mod Pending
-pub mod Port
 pub mod Run

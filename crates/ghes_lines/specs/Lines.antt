@@ -7,7 +7,7 @@ use Rattle.ghes_ledger.specs.History.{Act, Executed}
 use Rattle.ghes_script.specs.declared.line.Line.{Line}
 use Rattle.ghes_script.specs.declared.line.What.{What}
 use Rattle.ghes_script.specs.declared.line.What.TheVariants as asks
-use Rattle.ghes_lines.specs.Desk.{DeskSeen}
+use Rattle.ghes_desk.specs.Desk.{DeskSeen}
 use Rattle.ghes_lines.specs.Follows.{blocks_in, Follows}
 use Rattle.ghes_lines.specs.Injector.{IsTold}
 use Rattle.ghes_lines.specs.declared.injector.Injected.{Injected}

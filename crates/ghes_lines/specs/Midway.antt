@@ -2,16 +2,14 @@
 use Rattle.std.specs.Prelude.{◌≡◌, ℕ, ◌==◌, if◌then◌else◌, Bool, true, false, List, [], ◌∷◌, ◌++◌}
 use Rattle.std.specs.List.{AllByRecursion}
 use Rattle.apei_base.specs.Firmware.{Seen}
-use Rattle.ghes_call.specs.declared.call.AckState.TheVariants.{NotAsked}
 use Rattle.ghes_call.specs.declared.call.Call.{Call}
-use Rattle.ghes_call.specs.declared.call.Outcome.TheVariants.{Stopped}
-use Rattle.ghes_call.specs.declared.call.Reply.{Reply}
 use Rattle.ghes_ledger.specs.Asks.{Calls}
 use Rattle.ghes_ledger.specs.History.{Executed}
 use Rattle.ghes_ledger.specs.Plan.{Plan, served}
 use Rattle.ghes_ledger.specs.Turns.{Along, IsMadeBy}
 use Rattle.ghes_ledger.specs.declared.ledger.Mark.{Mark}
-use Rattle.ghes_lines.specs.Desk.{DeskSeen}
+use Rattle.ghes_desk.specs.Call.{stopped_reply}
+use Rattle.ghes_desk.specs.Desk.{DeskSeen}
 use Rattle.ghes_lines.specs.Follows.{Follows}
 use Rattle.ghes_lines.specs.Machine.{plan_of}
 use Rattle.ghes_lines.specs.declared.machine.Machine.{Machine}
@@ -29,10 +27,6 @@ line_by_line number before [] = before
 line_by_line number before (call ∷ older) =
     record { act = record { number = number; asks = Calls call.source }; made = []; calls = call ∷ []; ends = []; peeks = []; taken = [] }
     ∷ line_by_line number before older
-
--- what a call answers behind a fatal one of its line
-abbrev pub stopped_reply : Reply
-stopped_reply = record { outcome = Stopped; ack = NotAsked }
 
 -- a call behind a fatal one of its line, made by the context that serves its source
 pub record IsStopped (plan : Plan) (before : List Executed) (call : Call) : Type 0 where

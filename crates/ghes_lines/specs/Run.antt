@@ -9,7 +9,7 @@ use Rattle.ghes_ledger.specs.Lawful.{IsLawful}
 use Rattle.ghes_ledger.specs.Queue.{queue, fails_in}
 use Rattle.ghes_nmi.specs.Receive.{receive_seen}
 use Rattle.ghes_script.specs.declared.line.Line.{Line}
-use Rattle.ghes_lines.specs.Desk.{DeskSeen}
+use Rattle.ghes_desk.specs.Desk.{DeskSeen}
 use Rattle.ghes_lines.specs.Follows.{blocks_in, IsTied, Follows}
 use Rattle.ghes_lines.specs.Injector.{requests_of, injections_in, Injections}
 use Rattle.ghes_lines.specs.Lines.{act_of, MakesBlock}

@@ -9,11 +9,10 @@ ghost use Rattle.ghes_lines.specs.declared.error.Stop.TheVariants.{Full};
 ghost use Rattle.ghes_lines.specs.Lines.{IsLed, Executes, ExecutesTelling};
 ghost use Rattle.ghes_lines.specs.Machine.{IsMachine};
 
-use crate::desk::Desk;
 use crate::error::Stop;
 use crate::lines::{cell_at, fail_at, nmi_at, raise_at, raised_at};
 use crate::machine::Machine;
-use crate::port::Port;
+use ghes_desk::{Desk, Port};
 use ghes_ledger::InjectionEnd;
 use ghes_steps::Steps;
 use std::alloc::{AllocError, Global};

@@ -3,13 +3,12 @@ ghost use Rattle.std.specs.Prelude.{◌≡◌, [], length, IfErr, OnOk};
 ghost use Rattle.ghes_lines.specs.Lines.{act_of, IsAllowed, IsLed, Executes, InjectsBy, IsStopAt};
 ghost use Rattle.ghes_lines.specs.Machine.{IsMachine};
 
-use crate::desk::Desk;
 use crate::error::Stop;
 use crate::executing::{clock, ended, fail, has_room, injected, nmi, peek, raise, setting, work};
 use crate::injector::{Injected, Injector};
 use crate::machine::Machine;
-use crate::port::Port;
 use crate::running::run;
+use ghes_desk::{Desk, Port};
 use ghes_script::{Line, What};
 use ghes_steps::Steps;
 use std::alloc::Global;

@@ -3,16 +3,15 @@ ghost use Rattle.std.specs.Prelude.{◌≡◌, ◌<◌, ◌≤◌, ◌+◌, ◌-
 ghost use Rattle.apei_base.specs.Firmware.{IsRaised};
 ghost use Rattle.ghes_call.specs.Receive.{IsOfSource};
 ghost use Rattle.ghes_nmi.specs.Receive.{receive_seen};
-ghost use Rattle.ghes_lines.specs.Desk.{IsNmi, IsTurn};
+ghost use Rattle.ghes_desk.specs.Desk.{IsNmi, IsTurn};
 ghost use Rattle.ghes_lines.specs.Lines.{IsAt};
 ghost use Rattle.fw_port.specs.Port.{raised};
-ghost use Rattle.ghes_lines.specs.Port.{IsPlanned, ack_cell_of};
+ghost use Rattle.ghes_desk.specs.Port.{IsPlanned, ack_cell_of};
 ghost use Rattle.ghes_lines.specs.declared.machine.Source.{Source};
 
-use crate::desk::Desk;
 use crate::machine::Source;
-use crate::port::Port;
 use ghes_call::Call;
+use ghes_desk::{Desk, Port};
 use ghes_steps::Steps;
 use std::alloc::{AllocError, Global};
 use std::sync::ledger;
@@ -72,7 +71,14 @@ pub(crate) fn nmi_at<P: Port, L: ledger::Ledger>(
         (P.faults before) (P.faults after) desk.old desk.new)) }
     ensures room { desk.new.block_len ≡ desk.old.block_len }
 {
-    desk.nmi(alloc, source, at, &mut ports[usize::from(at)], steps)
+    desk.nmi(
+        alloc,
+        &source.receive,
+        source.server,
+        at,
+        &mut ports[usize::from(at)],
+        steps,
+    )
 }
 
 /// One call of a line with many, on the source at a position.
@@ -93,5 +99,12 @@ pub(crate) fn turn_at<P: Port, L: ledger::Ledger>(
         (P.faults before) (P.faults after) desk.old desk.new call)) }
     ensures room { desk.new.block_len ≡ desk.old.block_len }
 {
-    desk.turn(alloc, source, at, &mut ports[usize::from(at)], steps)
+    desk.turn(
+        alloc,
+        &source.receive,
+        source.server,
+        at,
+        &mut ports[usize::from(at)],
+        steps,
+    )
 }

@@ -5,13 +5,12 @@ ghost use Rattle.ghes_lines.specs.Lines.{IsAllowed};
 ghost use Rattle.ghes_lines.specs.Machine.{IsMachine};
 ghost use Rattle.ghes_lines.specs.Run.{AreFresh, IsRun, IsStopOf};
 
-use crate::desk::Desk;
 use crate::error::Stop;
 use crate::executing::finish;
 use crate::execution::execute;
 use crate::injector::Injector;
 use crate::machine::Machine;
-use crate::port::Port;
+use ghes_desk::{Desk, Port};
 use ghes_ledger::Ledger;
 use ghes_script::Line;
 use ghes_steps::Steps;

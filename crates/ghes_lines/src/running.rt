@@ -12,11 +12,10 @@ ghost use Rattle.ghes_lines.specs.Machine.{IsMachine, plan_of};
 ghost use Rattle.ghes_lines.specs.Midway.{IsAmid, Continues, IsPart, Visits, MakesTurn};
 ghost use Rattle.ghes_lines.specs.declared.machine.Source.{Source};
 
-use crate::desk::Desk;
 use crate::lines::turn_at;
 use crate::machine::Machine;
-use crate::port::Port;
 use ghes_call::{Call, Outcome};
+use ghes_desk::{Desk, Port};
 use ghes_steps::Steps;
 use std::alloc::{AllocError, Global};
 use std::sync::ledger;
@@ -53,7 +52,7 @@ fn answer<P: Port, L: ledger::Ledger>(
 {
     let source = machine.sources[at];
     if desk.is_stopped() {
-        return Ok(desk.stopped_call(&source, at as u16));
+        return Ok(desk.stopped_call(source.server, at as u16));
     }
     turn_at(alloc, &source, at as u16, ports, desk, steps)
 }

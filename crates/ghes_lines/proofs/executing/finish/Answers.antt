@@ -1,5 +1,5 @@
 use Rattle.std.proofs.Common.{refl, ap, ◌∙◌}
-use Rattle.ghes_lines.specs.Desk.{marked}
+use Rattle.ghes_desk.specs.Desk.{marked}
 use Rattle.ghes_lines.proofs.ExecLemmas.{on_ok, goes_on}
 use Rattle.ghes_lines.proofs.FollowsLemmas.{follows_end}
 use Rattle.ghes_lines.proofs.executing.finish.Goals as goal

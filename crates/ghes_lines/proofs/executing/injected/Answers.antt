@@ -1,6 +1,6 @@
 use Rattle.std.proofs.Common.{◌<◌, ◌+◌, [], ◌∷◌, length, refl, sym, ap, subst, ◌∙◌}
 use Rattle.ghes_ledger.specs.declared.ledger.InjectionEnd.TheVariants.{Made}
-use Rattle.ghes_lines.specs.Desk.{marked}
+use Rattle.ghes_desk.specs.Desk.{marked}
 use Rattle.ghes_lines.specs.Injector.{IsTold}
 use Rattle.ghes_lines.specs.declared.injector.Injected.TheVariants.{Made as InjectedMade}
 use Rattle.ghes_lines.proofs.ExecLemmas.{on_ok, goes_made, tells_made}

@@ -1,5 +1,5 @@
 use Rattle.std.proofs.Common.{◌≡◌, ◌≤◌, [], length, sym, ap, subst, ◌∙◌, arith}
-use Rattle.ghes_lines.specs.Desk.{new_desk}
+use Rattle.ghes_desk.specs.Desk.{new_desk}
 use Rattle.ghes_lines.specs.Run.{IsRun}
 use Rattle.ghes_lines.proofs.RunningLemmas.{was_stopped, leads_none, leads_more, stops_at, ends}
 use Rattle.ghes_lines.proofs.run.run_lines.Goals.{then-loop-next-test+else-not-is_stopped, else-loop-next-test}

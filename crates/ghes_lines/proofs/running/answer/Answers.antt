@@ -4,7 +4,7 @@ use Rattle.ghes_nmi.specs.Receive.{receive_seen}
 use Rattle.ghes_lines.specs.Machine.{server_of}
 use Rattle.ghes_lines.proofs.LedLemmas.{all_at}
 use Rattle.ghes_lines.proofs.MidwayLemmas.{continues_stop, continues_call, turn_context}
-use Rattle.ghes_lines.proofs.OutcomeLemmas.{ok_more}
+use Rattle.ghes_desk.proofs.OutcomeLemmas.{ok_more}
 use Rattle.ghes_lines.proofs.RunningLemmas.{not_stopped, was_stopped}
 use Rattle.ghes_lines.proofs.running.answer.Goals as goal
 

@@ -1,7 +1,7 @@
 use Rattle.std.proofs.Common.{◌≡◌, List, length, refl, sym, ap, subst, ◌∙◌, arith}
 use Rattle.std.specs.List.{range_with_len}
 use Rattle.ghes_call.specs.declared.call.Call.{Call}
-use Rattle.ghes_lines.specs.Desk.{marked, worked, entered_by}
+use Rattle.ghes_desk.specs.Desk.{marked, worked, entered_by}
 use Rattle.ghes_lines.specs.Midway.{IsMidway}
 use Rattle.ghes_lines.proofs.ExecLemmas.{on_ok, goes_on}
 use Rattle.ghes_lines.proofs.MidwayLemmas.{midway_begins}

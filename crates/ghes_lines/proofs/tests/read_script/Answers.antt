@@ -5,7 +5,7 @@ use Rattle.ghes_script.specs.Setup.{Setup}
 use Rattle.ghes_script.specs.Sofar.{start}
 use Rattle.ghes_script.specs.Sound.{AreAllowed}
 use Rattle.ghes_script.specs.declared.line.Line.{Line}
-use Rattle.ghes_lines.proofs.OutcomeLemmas.{ok_more}
+use Rattle.ghes_desk.proofs.OutcomeLemmas.{ok_more}
 use Rattle.ghes_lines.proofs.ScriptLemmas.{lines_are}
 use Rattle.ghes_lines.specs.Lines.{IsAllowed}
 use Rattle.ghes_lines.specs.declared.machine.Machine.{Machine}

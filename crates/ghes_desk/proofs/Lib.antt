@@ -1,0 +1,5 @@
+mod CacheLemmas
+mod FoundLemmas
+pub mod OutcomeLemmas
+pub mod RangeLemmas
+mod RoomLemmas

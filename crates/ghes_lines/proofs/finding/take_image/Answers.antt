@@ -1,9 +1,0 @@
-use Rattle.std.proofs.Common.{rules}
-use Rattle.apei_base.specs.Firmware.{standing}
-use Rattle.ghes_lines.proofs.FoundLemmas.{found_whole}
-use Rattle.ghes_lines.proofs.finding.take_image.Goals as goal
-
-pub returns-in_ok-read_rest-in-Ok-clause-found : goal.returns-in_ok-read_rest-in-Ok-clause-found
-returns-in_ok-read_rest-in-Ok-clause-found g c =
-    let is = found_whole c.args.receive.now.limit (standing (g.P.Firmware.seen c.args.port.now)) c.args.header.now c.read_rest.new.image.bytes c.examine.result c.requires.read (search rules) (search rules) (search rules) in
-    record { stands = is.0; address = c.requires.at; image = is.1; said = is.2 }
