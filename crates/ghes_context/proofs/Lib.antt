@@ -1,4 +1,3 @@
-mod FoundLemmas
 mod NmiLemmas
 mod OutcomeLemmas
 mod Popped

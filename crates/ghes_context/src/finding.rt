@@ -2,6 +2,7 @@
 ghost use Rattle.std.specs.Prelude.{◌≡◌, ◌≤◌, ◌+◌, Some, length, IfOk, OnOk, IfSome};
 ghost use Rattle.ghes_nmi.specs.Steps.{standing_header};
 ghost use Rattle.apei_base.specs.Bus.{CountsFaults};
+ghost use Rattle.cper_block.specs.Header.{header_of};
 ghost use Rattle.ghes_call.specs.Receive.{IsOfSource};
 ghost use Rattle.ghes_nmi.specs.Receive.{receive_seen};
 ghost use Rattle.ghes_context.specs.Found.{Finds, IsFound};
@@ -20,11 +21,11 @@ pub(crate) struct Found {
     pub(crate) said: Examined,
 }
 
-// Takes the image of the block whose header is at hand. Where the header is refused the image is the header alone.
+// Takes the image of the block whose header is in the buffer. Where the header is refused the image is the header alone.
 #[inline(always)]
 fn take_image<P: Firmware, L: Ledger>(
     address: u64,
-    header: &[u8; 20],
+    header: &Header,
     receive: &Receive,
     image: &mut Buffer,
     port: &mut P,
@@ -34,7 +35,8 @@ fn take_image<P: Firmware, L: Ledger>(
     requires header { 20 ≤ receive.now.limit }
     requires room { receive.now.limit ≤ image.old.room }
     requires at { address ≡ (P.seen port.old).layout.area }
-    requires read { Some header.now ≡ standing_header (P.seen port.old) }
+    requires read { Some image.old.bytes ≡ standing_header (P.seen port.old) }
+    requires says { header.now ≡ header_of image.old.bytes }
     ensures found { IfOk result (λ found. IsFound receive.now.limit (P.seen port.old) image.new.bytes found) }
     ensures short { OnOk result (length image.new.bytes ≤ receive.now.limit) }
     ensures room { image.old.room ≤ image.new.room }
@@ -42,20 +44,16 @@ fn take_image<P: Firmware, L: Ledger>(
     ensures count { CountsFaults result (P.faults port.old) (P.faults port.new) }
     ensures cost { steps.new ≤ steps.old + 1 }
 {
-    let front = Header::read(header);
-    match front.check(receive.limit) {
-        Err(reason) => {
-            image.fill(header);
-            Ok(Found {
-                address,
-                said: Examined::Malformed(reason),
-            })
-        }
+    match header.check(receive.limit) {
+        Err(reason) => Ok(Found {
+            address,
+            said: Examined::Malformed(reason),
+        }),
         Ok(count) => {
-            read_rest(address, header, count as usize, image, port, steps)?;
+            read_rest(address, count as usize, image, port, steps)?;
             Ok(Found {
                 address,
-                said: examine_rest(image.as_slice(), &front),
+                said: examine_rest(image.as_slice(), header),
             })
         }
     }
@@ -84,7 +82,7 @@ pub(crate) fn find<P: Firmware, L: Ledger>(
     let Some(address) = peek(receive, port, steps)? else {
         return Ok(None);
     };
-    let Some(header) = read_header(address, port, steps)? else {
+    let Some(header) = read_header(address, image, port, steps)? else {
         return Ok(None);
     };
     let found = take_image(address, &header, receive, image, port, steps)?;

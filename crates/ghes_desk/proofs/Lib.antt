@@ -1,5 +1,4 @@
 mod CacheLemmas
-mod FoundLemmas
 pub mod OutcomeLemmas
 pub mod RangeLemmas
 mod RoomLemmas

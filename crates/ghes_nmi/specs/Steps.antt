@@ -1,9 +1,10 @@
 -- What each step of a call answers and leaves.
 use Rattle.std.specs.Prelude.{◌≡◌, ℕ, ◌+◌, ◌==◌, Bool, true, false, if◌then◌else◌, List, Option, Some, None, option_map}
 use Rattle.apei_base.specs.Firmware.{Seen, standing}
-use Rattle.cper_block.specs.Header.{header_size}
+use Rattle.cper_block.specs.Header.{header_size, header_of}
 use Rattle.cper_block.specs.Image.{padded, is_fatal}
 use Rattle.cper_block.specs.Reason.{reason_of}
+use Rattle.cper_block.specs.declared.header.Header.{Header}
 use Rattle.cper_block.specs.declared.malformed.Malformed.{Malformed as Reason}
 use Rattle.ghes_call.specs.Call.{Failure, Nowhere, BehindCleared}
 use Rattle.ghes_call.specs.declared.call.AckState.{AckState}
@@ -23,6 +24,11 @@ IsPlace port (Some address) = address ≡ port.layout.area
 -- the header of the block that stands, if one does
 abbrev pub standing_header : Seen → Option (List ℕ)
 standing_header port = option_map (padded header_size) (standing port)
+
+-- these bytes are the header that stands, and this is what it says; or no block stands
+abbrev pub IsHeaderOf : Option (List ℕ) → List ℕ → Option Header → Type 0
+IsHeaderOf stands bytes None = stands ≡ None
+IsHeaderOf stands bytes (Some header) = (Some bytes ≡ stands) × (header ≡ header_of bytes)
 
 -- how many accesses copy what is behind the header of an image of so many bytes: none where nothing is
 abbrev pub accesses_behind : ℕ → ℕ

@@ -4,10 +4,11 @@ ghost use Rattle.apei_base.specs.Bus.{reach_of, CountsFaults};
 ghost use Rattle.apei_base.specs.Firmware.{status_value, standing, area_bytes};
 ghost use Rattle.cper_block.specs.Header.{header_of};
 ghost use Rattle.cper_block.specs.Image.{padded};
-ghost use Rattle.ghes_nmi.specs.Steps.{place_of, IsPlace, standing_header, accesses_behind};
+ghost use Rattle.ghes_nmi.specs.Steps.{place_of, IsPlace, IsHeaderOf, standing_header, accesses_behind};
 
 use crate::Receive;
 use apei_base::{BusFault, Firmware, copy_area, read_status, u32_at};
+use cper_block::Header;
 use ghes_call::Buffer;
 use ghes_steps::Steps;
 use std::sync::ledger::Ledger;
@@ -37,52 +38,71 @@ pub fn peek<P: Firmware, L: Ledger>(
     }
 }
 
-// Copies the header of the block at `address`. It stands apart so that its 20 bytes stay in memory: inlined, they are moved one by one.
-#[inline(never)]
-fn copy_header<P: Firmware>(
-    address: u64,
-    header: &mut [u8; 20],
-    port: &mut P,
-) -> Result<(), BusFault>
+// The header at the front of the bytes.
+#[inline(always)]
+fn header_at(bytes: &[u8]) -> Header
+    requires { 20 ≤ length bytes.now }
+    ensures { result ≡ header_of bytes.now }
+{
+    Header {
+        status: u32_at(bytes, 0),
+        raw_offset: u32_at(bytes, 4),
+        raw_length: u32_at(bytes, 8),
+        length: u32_at(bytes, 12),
+        severity: u32_at(bytes, 16),
+    }
+}
+
+// Copies the header of the block at `address` to the front of the memory.
+#[inline(always)]
+fn copy_header<P: Firmware>(address: u64, memory: &mut [u8], port: &mut P) -> Result<(), BusFault>
     requires at { address ≡ (P.seen port.old).layout.area }
     requires within { 20 ≤ (P.seen port.old).layout.room }
-    ensures value { OnOk result (header.new ≡ area_bytes 0 20 (P.seen port.old)) }
+    requires fits { 20 ≤ length memory.old }
+    ensures value { OnOk result (take 20 memory.new ≡ area_bytes 0 20 (P.seen port.old)) }
+    ensures size { length memory.new ≡ length memory.old }
     ensures kept { P.seen port.new ≡ P.seen port.old }
     ensures count { CountsFaults result (P.faults port.old) (P.faults port.new) }
 {
-    copy_area(port, address, 0, header)
+    let (front, _behind) = memory.split_at_mut(20);
+    copy_area(port, address, 0, front)
 }
 
-/// Copies the header of the block at `address`, or none where no block stands: its block status is 0.
+/// Copies the header of the block at `address` into the buffer, whose bytes are that header from then on, and reads it. It is
+/// `None` where no block stands: its block status is 0.
 ///
 /// One access. After Linux 6.1, drivers/acpi/apei/ghes.c.
 #[inline(always)]
 pub fn read_header<P: Firmware, L: Ledger>(
     address: u64,
+    image: &mut Buffer,
     port: &mut P,
     steps: &mut Steps<L>,
-) -> Result<Option<[u8; 20]>, BusFault>
+) -> Result<Option<Header>, BusFault>
     requires at { address ≡ (P.seen port.old).layout.area }
     requires within { 20 ≤ (P.seen port.old).layout.room }
-    ensures value { IfOk result (λ header. header ≡ standing_header (P.seen port.old)) }
+    requires room { 20 ≤ image.old.room }
+    ensures value { IfOk result (λ header. IsHeaderOf (standing_header (P.seen port.old)) image.new.bytes header) }
+    ensures room { image.old.room ≤ image.new.room }
     ensures kept { P.seen port.new ≡ P.seen port.old }
     ensures count { CountsFaults result (P.faults port.old) (P.faults port.new) }
     ensures cost { steps.new ≡ steps.old + 1 }
 {
-    let mut header = [0u8; 20];
     steps.tick();
-    match copy_header(address, &mut header, port) {
-        Err(fault) => Err(fault),
-        Ok(()) if u32_at(&header, 0) == 0 => Ok(None),
-        Ok(()) => Ok(Some(header)),
+    copy_header(address, &mut image.memory, port)?;
+    image.len = 20;
+    let header = header_at(image.as_slice());
+    if header.status == 0 {
+        return Ok(None);
     }
+    Ok(Some(header))
 }
 
-// Writes the header to the front of the memory, and copies what is behind it there up to so many bytes, if there is more of the block.
+// Copies what is behind the header of the block at `address` into the memory behind its first 20 bytes, up to so many bytes in all, if
+// there is more of the block.
 #[inline(always)]
-fn join<P: Firmware, L: Ledger>(
+fn copy_behind<P: Firmware, L: Ledger>(
     address: u64,
-    header: &[u8; 20],
     count: usize,
     memory: &mut [u8],
     port: &mut P,
@@ -93,15 +113,14 @@ fn join<P: Firmware, L: Ledger>(
     requires whole { 20 ≤ count }
     requires fits { count ≤ length memory.old }
     ensures value { OnOk result
-        (take count memory.new ≡ header.now ++ area_bytes 20 (count - 20) (P.seen port.old)) }
+        (take count memory.new ≡ take 20 memory.old ++ area_bytes 20 (count - 20) (P.seen port.old)) }
     ensures size { length memory.new ≡ length memory.old }
     ensures kept { P.seen port.new ≡ P.seen port.old }
     ensures count { CountsFaults result (P.faults port.old) (P.faults port.new) }
     ensures cost { steps.new ≡ steps.old + accesses_behind count }
 {
     let (bytes, _behind) = memory.split_at_mut(count);
-    let (front, rest) = bytes.split_at_mut(20);
-    front.copy_from_slice(header);
+    let (_header, rest) = bytes.split_at_mut(20);
     if rest.is_empty() {
         return Ok(());
     }
@@ -109,15 +128,14 @@ fn join<P: Firmware, L: Ledger>(
     copy_area(port, address, 20, rest)
 }
 
-/// Copies what is behind the header of the block at `address` into the buffer, whose bytes are the image from then on: the
-/// header, and the rest up to `count` bytes.
+/// Copies what is behind the header of the block at `address` into the buffer, whose bytes are that header, and are the image from
+/// then on: the header, and the rest up to `count` bytes.
 ///
 /// One access where the block is longer than its header, and else none.
 /// After Linux 6.1, drivers/acpi/apei/ghes.c.
-#[inline(never)]
+#[inline(always)]
 pub fn read_rest<P: Firmware, L: Ledger>(
     address: u64,
-    header: &[u8; 20],
     count: usize,
     image: &mut Buffer,
     port: &mut P,
@@ -127,16 +145,16 @@ pub fn read_rest<P: Firmware, L: Ledger>(
     requires within { count ≤ (P.seen port.old).layout.room }
     requires whole { 20 ≤ count }
     requires room { count ≤ image.old.room }
-    requires header { Some header.now ≡ standing_header (P.seen port.old) }
+    requires header { Some image.old.bytes ≡ standing_header (P.seen port.old) }
     ensures value { OnOk result
         (image.new.bytes ≡ padded count (unwrap_or (standing (P.seen port.old)) [])) }
-    ensures front { OnOk result (header_of image.new.bytes ≡ header_of header.now) }
+    ensures front { OnOk result (header_of image.new.bytes ≡ header_of image.old.bytes) }
     ensures long { OnOk result (length image.new.bytes ≡ count) }
     ensures room { image.old.room ≤ image.new.room }
     ensures kept { P.seen port.new ≡ P.seen port.old }
     ensures count { CountsFaults result (P.faults port.old) (P.faults port.new) }
     ensures cost { steps.new ≡ steps.old + accesses_behind count }
 {
-    image.set_len(count);
-    join(address, header, count, &mut image.memory, port, steps)
+    image.len = count;
+    copy_behind(address, count, &mut image.memory, port, steps)
 }

@@ -9,7 +9,6 @@ use crate::{
 };
 use apei_base::{BusFault, Bytes, Firmware, Region, u32_at};
 use apei_mem_bus::{Faulty, OneSource};
-use cper_block::Header;
 use ghes_call::{AckState, Buffer};
 use ghes_steps::Steps;
 use std::alloc::{AllocError, Global};
@@ -32,13 +31,13 @@ fn call<P: Firmware, L: Ledger>(
     let Some(address) = peek(receive, port, steps)? else {
         return Err(BusFault);
     };
-    let Some(bytes) = read_header(address, port, steps)? else {
+    let Some(header) = read_header(address, image, port, steps)? else {
         return Err(BusFault);
     };
-    let Ok(count) = Header::read(&bytes).check(receive.limit) else {
+    let Ok(count) = header.check(receive.limit) else {
         return Err(BusFault);
     };
-    read_rest(address, &bytes, count as usize, image, port, steps)?;
+    read_rest(address, count as usize, image, port, steps)?;
     let examined = examine(image.as_slice(), receive.limit);
     clear(address, port, steps)?;
     Ok((examined, acknowledge(&receive.ack, port, steps)))

@@ -5,7 +5,6 @@ ghost use Rattle.ghes_nmi.specs.Receive.{receive_seen};
 
 use crate::setting::{LIMIT, blocks, port, received};
 use apei_base::{BusFault, Firmware};
-use cper_block::Header;
 use ghes_call::{AckState, Buffer};
 use ghes_context::Receive;
 use ghes_nmi::{acknowledge, clear, examine_rest, peek, read_header, read_rest};
@@ -29,14 +28,13 @@ fn steps_of_a_call<P: Firmware, L: Ledger>(
     let Some(address) = peek(receive, memory, steps)? else {
         return Err(BusFault);
     };
-    let Some(bytes) = read_header(address, memory, steps)? else {
+    let Some(header) = read_header(address, image, memory, steps)? else {
         return Err(BusFault);
     };
-    let header = Header::read(&bytes);
     let Ok(count) = header.check(receive.limit) else {
         return Err(BusFault);
     };
-    read_rest(address, &bytes, count as usize, image, memory, steps)?;
+    read_rest(address, count as usize, image, memory, steps)?;
     let _examined = examine_rest(image.as_slice(), &header);
     clear(address, memory, steps)?;
     Ok(acknowledge(&receive.ack, memory, steps))
