@@ -20,11 +20,11 @@ pub record CacheState : Type 0 where
   pub places : List PlaceState
   pub block_len : ℕ
 
--- two words of a block, added: the first and the last of its last 64 bytes, and 0 where there are fewer. It spares comparisons and
--- decides nothing (own choice)
+-- two words of a block, added: the first and the last of its last 64 bytes, and 2^64 - 1 where there are fewer. It spares comparisons
+-- and decides nothing (own choice)
 unfoldable pub sample_of : List ℕ → ℕ
 sample_of bytes =
-    if nat_lt (length bytes) 64 then 0
+    if nat_lt (length bytes) 64 then 2 ^ 64 - 1
     else ((little_number 8 (drop (length bytes - 64) bytes) + little_number 8 (drop 56 (drop (length bytes - 64) bytes))) % 2 ^ 64)
 
 -- a place with no report (own choice)

@@ -9,7 +9,7 @@ use std::marker::Model;
 /// How long a report hits, in nanoseconds.
 const WINDOW: u64 = 10_000_000_000;
 
-/// Two words of a block, added: the first and the last of its last 64 bytes, and 0 where there are fewer.
+/// Two words of a block, added: the first and the last of its last 64 bytes, and 2^64 - 1 where there are fewer.
 ///
 /// Blocks that differ in it are not compared. Of a memory error the first is the physical address. Source: UEFI 2.10, N.2.5.
 #[tactic(auto, unfolding(crate::specs::Cache::sample_of))]
@@ -17,7 +17,7 @@ pub(crate) fn sample(bytes: &[u8]) -> u64
     ensures { result ≡ sample_of bytes.now }
 {
     if bytes.len() < 64 {
-        return 0;
+        return u64::MAX;
     }
     let last = bytes.split_at(bytes.len() - 64).1;
     LittleEndian::read_u64(last).wrapping_add(LittleEndian::read_u64(last.split_at(56).1))
@@ -71,7 +71,7 @@ impl Place {
             full: false,
             twin: false,
             bytes: Vec::with_capacity(alloc, room)?,
-            sample: 0,
+            sample: u64::MAX,
             total: 0,
             time: 0,
             number: 0,
