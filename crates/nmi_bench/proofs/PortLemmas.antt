@@ -1,17 +1,118 @@
--- What a copy of a part of the standing block answers, and lists of blocks.
-use Rattle.std.proofs.Common.{◌≡◌, ◌+◌, ◌-◌, ◌++◌, ◌∷◌, ℕ, List, [], Some, refl, arith, length}
-use Rattle.std.specs.List.{AllByRecursion}
-use Rattle.apei_base.specs.Bus.{Copies}
-use Rattle.apei_base.specs.Firmware.{Seen, IsRaised, standing, shown, after_access, IsAnswered}
-use Rattle.apei_base.proofs.CutLemmas.{all_push}
+-- What stands in a memory that raises one block so often, and what its accesses answer.
+use Rattle.std.proofs.Common.{◌≡◌, ◌≤◌, ◌<◌, ◌+◌, ◌-◌, ◌%◌, ◌^◌, ℕ, Bool, true, false, not, ◌&&◌, ◌==◌, nat_lt, if◌then◌else◌, List, replicate, Option, Some, None, is_some, slice_get, IsTrue, refl, arith, length, ◌∙◌, ap, sym, ⊎_elim, ◌||◌, unwrap_or, []}
+use Rattle.std.proofs.lemmas.Bool.{cases_lt, cases_Bool}
+use Rattle.std.proofs.lemmas.Bool.Decides.{nat_tests}
+use Rattle.std.proofs.lemmas.List.{get_or-replicate, length-replicate}
+use Rattle.std.proofs.lemmas.Option.{slice_get_past, slice_get_read}
+use Rattle.apei_base.specs.Bus.{Reach, Reads, Copies, same_reach}
+use Rattle.apei_base.specs.Firmware.{Seen, standing, status_value, shown, block_status, is_ack, after_access, IsAnswered}
 use Rattle.apei_mem_bus.specs.OneSource.{IsPlainStep}
+use Rattle.nmi_bench.specs.Memory.{port_layout, port_seen, register_at, area_where, IsReady}
 
--- bytes of the standing block from a place on are what a copy there answers, and nothing changes
-pub copied : (seen : Seen) (address skip : ℕ) (block bytes : List ℕ) → address ≡ seen.layout.area → standing seen ≡ Some block → bytes ≡ shown skip (length bytes) block → IsPlainStep seen (Copies (address + skip) bytes) seen
+-- an element of equal ones
+slice_get-replicate : (n i : ℕ) (block : List ℕ) → slice_get (replicate n block) i ≡ (if nat_lt i n then Some block else None)
+slice_get-replicate n i block =
+    ⊎_elim
+    (λ within. slice_get_read (replicate n block) n i block (sym (length-replicate n block)) within (sym (get_or-replicate n i block block within)) ∙ grind (arith, nat_tests, within))
+    (λ past. slice_get_past (replicate n block) i (rw length-replicate past) ∙ grind (arith, nat_tests, past))
+    (cases_lt i n)
+
+-- the block stands where none is awaited and not all are acknowledged
+standing_by_parts : (block : List ℕ) (raised acknowledged : ℕ) (waits : Bool) (cell : ℕ) → standing (port_seen block raised acknowledged waits cell) ≡ (if not waits && nat_lt acknowledged raised then Some block else None)
+standing_by_parts block raised acknowledged true cell = refl
+standing_by_parts block raised acknowledged false cell = slice_get-replicate raised acknowledged block
+
+-- the block stands where that is said
+pub standing_is : (block : List ℕ) (raised acknowledged : ℕ) (waits stands : Bool) (status cell : ℕ) → IsReady block raised acknowledged waits stands status cell → standing (port_seen block raised acknowledged waits cell) ≡ (if stands then Some block else None)
+standing_is block raised acknowledged waits stands status cell ready =
+    standing_by_parts block raised acknowledged waits cell ∙ ap (λ b. if b then Some block else None) (sym ready.stands_is)
+
+unwrap_if : (b : Bool) (block : List ℕ) → unwrap_or (if b then Some block else None) [] ≡ (if b then block else [])
+unwrap_if true block = refl
+unwrap_if false block = refl
+
+-- the bytes of the block that stands
+pub bytes_are : (block : List ℕ) (raised acknowledged : ℕ) (waits stands : Bool) (status cell : ℕ) → IsReady block raised acknowledged waits stands status cell → unwrap_or (standing (port_seen block raised acknowledged waits cell)) [] ≡ (if stands then block else [])
+bytes_are block raised acknowledged waits stands status cell ready =
+    ap (λ found. unwrap_or found []) (standing_is block raised acknowledged waits stands status cell ready) ∙ unwrap_if stands block
+
+some_if : (b : Bool) (block : List ℕ) → is_some (if b then Some block else None) ≡ b
+some_if true block = refl
+some_if false block = refl
+
+-- whether a block stands
+pub stands_is : (block : List ℕ) (raised acknowledged : ℕ) (waits stands : Bool) (status cell : ℕ) → IsReady block raised acknowledged waits stands status cell → is_some (standing (port_seen block raised acknowledged waits cell)) ≡ stands
+stands_is block raised acknowledged waits stands status cell ready =
+    ap is_some (standing_is block raised acknowledged waits stands status cell ready) ∙ some_if stands block
+
+address_by_parts : (raised acknowledged : ℕ) (waits some : Bool) → some ≡ (not waits && nat_lt acknowledged raised) → acknowledged ≤ raised → (IsTrue waits → 0 < acknowledged) → area_where (nat_lt 0 acknowledged || some) ≡ area_where (nat_lt 0 raised)
+address_by_parts raised acknowledged true some is most awaited = let one : 0 < acknowledged = awaited refl in grind (arith, nat_tests)
+address_by_parts raised acknowledged false some is most awaited = grind (arith, nat_tests)
+
+-- what the status address register says
+pub status_is : (block : List ℕ) (raised acknowledged : ℕ) (waits stands : Bool) (status cell : ℕ) → IsReady block raised acknowledged waits stands status cell → status ≡ status_value (port_seen block raised acknowledged waits cell)
+status_is block raised acknowledged waits stands status cell ready =
+    ready.status_is
+    ∙ sym (address_by_parts raised acknowledged waits (is_some (standing (port_seen block raised acknowledged waits cell)))
+    (stands_is block raised acknowledged waits stands status cell ready ∙ ready.stands_is) ready.made ready.awaited)
+
+same_numbers : (s : Bool) (a b m n : ℕ) → (s && (a == b) && (m == n)) ≡ true → m ≡ n
+same_numbers s a b m n same = grind (arith, nat_tests)
+
+-- what reaches the same cells is as wide
+same_width : (one other : Reach) → same_reach one other ≡ true → one.width ≡ other.width
+same_width one other same = same_numbers (Rattle.apei_base.specs.Bus.same_space one.space other.space) one.address other.address one.width other.width same
+
+-- a wide read answers what the status address register holds
+pub reads_status : (block : List ℕ) (raised acknowledged : ℕ) (waits stands : Bool) (status cell : ℕ) (reach : Reach) → IsReady block raised acknowledged waits stands status cell → 32 < reach.width → IsPlainStep (port_seen block raised acknowledged waits cell) (Reads reach status) (port_seen block raised acknowledged waits cell)
 unfolding after_access IsAnswered
-copied seen address skip block bytes at stands is =
-    (λ low high. let place : address + skip - seen.layout.area ≡ skip = omega (arith, at) in cc (is, stands, place), refl)
+reads_status block raised acknowledged waits stands status cell reach ready wide = (
+  (
+    λ same. status_is block raised acknowledged waits stands status cell ready,
+    λ same. absurd (let narrow : 32 ≡ reach.width = same_width (register_at 4104 32) reach same in omega (arith, narrow, wide)),
+  ),
+  refl,
+)
 
--- one raised block more
-pub raised_push : (blocks : List (List ℕ)) (block : List ℕ) → AllByRecursion IsRaised blocks → IsRaised block → AllByRecursion IsRaised (blocks ++ block ∷ [])
-raised_push = all_push IsRaised
+-- a read of 32 bits answers what the read ack register holds
+pub reads_cell : (block : List ℕ) (raised acknowledged : ℕ) (waits : Bool) (cell : ℕ) (reach : Reach) → reach.width ≡ 32 → IsPlainStep (port_seen block raised acknowledged waits cell) (Reads reach cell) (port_seen block raised acknowledged waits cell)
+unfolding after_access IsAnswered
+reads_cell block raised acknowledged waits cell reach narrow = (
+  (
+    λ same. absurd (let wide : 64 ≡ reach.width = same_width (register_at 4096 64) reach same in omega (arith, narrow, wide)),
+    λ same. refl,
+  ),
+  refl,
+)
+
+-- of a narrower read nothing is said
+pub reads_none : (block : List ℕ) (raised acknowledged : ℕ) (waits : Bool) (cell value : ℕ) (reach : Reach) → reach.width < 32 → IsPlainStep (port_seen block raised acknowledged waits cell) (Reads reach value) (port_seen block raised acknowledged waits cell)
+unfolding after_access IsAnswered
+reads_none block raised acknowledged waits cell value reach narrow = (
+  (
+    λ same. absurd (let wide : 64 ≡ reach.width = same_width (register_at 4096 64) reach same in omega (arith, narrow, wide)),
+    λ same. absurd (let wide : 32 ≡ reach.width = same_width (register_at 4104 32) reach same in omega (arith, narrow, wide)),
+  ),
+  refl,
+)
+
+clears_by_parts : (same : Bool) (reach : Reach) (value : ℕ) (stands : Bool) → (same ≡ true → reach.width ≡ 32) → ((value % 4294967296 == 0) && stands && same) ≡ (same && (value % 2 ^ reach.width == 0) && stands)
+clears_by_parts false reach value stands width = grind (arith, nat_tests)
+clears_by_parts true reach value stands width = rw (width refl) grind (arith, nat_tests)
+
+-- a write of 32 bits clears where all of them are 0
+pub clears_is : (reach : Reach) (value : ℕ) (stands : Bool) → ((value % 4294967296 == 0) && stands && same_reach reach (register_at 8192 32)) ≡ (same_reach reach (block_status port_layout) && (value % 2 ^ reach.width == 0) && stands)
+clears_is reach value stands = clears_by_parts (same_reach reach (register_at 8192 32)) reach value stands (same_width reach (register_at 8192 32))
+
+-- the low bits of what is written to the read ack register
+pub ack_bits : (reach : Reach) (value : ℕ) → is_ack port_layout reach ≡ true → value % 2 ^ reach.width ≡ value % 4294967296
+ack_bits reach value is = let width : reach.width ≡ 32 = sym (same_width (register_at 4104 32) reach is) in ap (λ n. value % 2 ^ n) width
+
+-- bytes of the block that stands are what a copy there answers, and nothing changes
+pub copied : (block : List ℕ) (raised acknowledged : ℕ) (waits stands : Bool) (status cell : ℕ) (address skip : ℕ) (bytes : List ℕ) → IsReady block raised acknowledged waits stands status cell → address ≡ 8192 → stands ≡ true → bytes ≡ shown skip (length bytes) block → IsPlainStep (port_seen block raised acknowledged waits cell) (Copies (address + skip) bytes) (port_seen block raised acknowledged waits cell)
+unfolding after_access IsAnswered
+copied block raised acknowledged waits stands status cell address skip bytes ready at stand is =
+    let place : address + skip - 8192 ≡ skip = omega (arith, at) in
+    let stood : unwrap_or (standing (port_seen block raised acknowledged waits cell)) [] ≡ block =
+    bytes_are block raised acknowledged waits stands status cell ready ∙ ap (λ (b : Bool). if b then block else []) stand in
+    (λ low high. cc (is, stood, place), refl)

@@ -77,6 +77,6 @@ impl<'a> Caller<'a> {
 
     /// How many blocks of its source are acknowledged.
     pub fn acknowledged(&self) -> usize {
-        self.port.inner.acknowledged
+        self.port.acknowledged
     }
 }

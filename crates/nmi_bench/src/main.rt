@@ -2,9 +2,12 @@
 //!
 //! Five words. First whether the blocks were reported before: `told` or `new`. Then whether each context calls in a thread of its
 //! own, beside the decoder in another: `threads`, or `alone` for one thread, where a packet is taken behind each call. Then how many
-//! contexts there are, 1 to 4, how many blocks each source raises, and how many calls each context makes. The answer is whether each
-//! block that was acknowledged was taken once and in order, or, where it was told before, not at all. With `steps` in the first place
-//! the steps of a call in firmware memory are made so often besides, without what contexts share.
+//! contexts there are, 1 to 4, how many blocks each source raises, and how many calls each context makes. With `steps` in the first
+//! place the steps of a call in firmware memory are made so often besides, without what contexts share.
+//!
+//! The answer is whether each block that was acknowledged was taken once and in order, or, where it was told before, not at all, and
+//! whether no fewer were acknowledged than there are on each schedule: each call of a context acknowledges a block, as long as one
+//! stands, unless all slots are taken; then so many blocks at least are acknowledged by all contexts as there are slots.
 #![tactic(auto)]
 
 ghost use Rattle.std.specs.Prelude.{◌≤◌, ◌<◌, ◌-◌, ◌^◌, length};
@@ -72,8 +75,16 @@ fn callers<'a>(
     Ok(all)
 }
 
+// Whether each context acknowledged at least so many blocks, or, as none was told before, all together as many as there are slots.
+fn are_enough(callers: &[Caller<'_>], least: usize, told: bool) -> bool {
+    let all = callers.iter().fold(0usize, |sum, caller| {
+        sum.saturating_add(caller.acknowledged())
+    });
+    callers.iter().all(|caller| caller.acknowledged() >= least) || !told && all >= SLOTS
+}
+
 // Whether each block that was acknowledged was taken, if it was not told before, once and in order.
-fn is_whole(callers: &[Caller<'_>], taken: &Taken, told: bool) -> bool {
+fn is_taken(callers: &[Caller<'_>], taken: &Taken, told: bool) -> bool {
     taken.in_order
         && callers.iter().all(|caller| {
             let wanted = if told { 0 } else { caller.acknowledged() };
@@ -112,7 +123,7 @@ fn main(rt: HostRuntime) -> io::Result<()> {
             } else {
                 alone(&shared, work, &mut all)
             };
-            is_whole(&all, &taken, told)
+            is_taken(&all, &taken, told) && are_enough(&all, blocks.min(calls), told)
         }
     };
     writer.end(&rt);

@@ -1,44 +1,113 @@
-//! The memory of one source, as quick as memory is.
-ghost use Rattle.std.specs.Prelude.{◌≡◌, ◌+◌, true, false, length, option_copied};
-ghost use Rattle.apei_base.specs.Firmware.{Seen, shown, standing};
+//! The memory of one source, as quick as memory is: what a register or the area holds stands ready before an access.
+ghost use Rattle.std.specs.Prelude.{◌≡◌, ◌<◌, ◌+◌, ◌%◌, ◌^◌, ◌&&◌, ◌==◌, true, false, length, is_some, unwrap_or, []};
+ghost use Rattle.apei_base.specs.Bus.{Copies, same_reach, reach_of};
+ghost use Rattle.apei_base.specs.Firmware.{Seen, shown, standing, block_status, is_ack};
 ghost use Rattle.apei_mem_bus.specs.OneSource.{IsPlainStep};
+ghost use Rattle.nmi_bench.specs.Memory.{IsReady, port_layout, port_seen};
 
-use apei_base::{Bus, BusFault, Bytes, Firmware, Region};
-use apei_mem_bus::OneSource;
+use crate::setting::LONG;
+use apei_base::{Bus, BusFault, Firmware, Region};
 
-/// The memory of one source, whose standing block is copied in one move.
+/// The address of the status address register, of 64 bits.
+pub const STATUS: u64 = 0x1000;
+
+/// The address of the read ack register, of 32 bits.
+pub const ACK: u64 = 0x1008;
+
+/// The address of the area, of 4,096 bytes.
+pub const AREA: u64 = 0x2000;
+
+/// The memory of one source, which raises one block so often. Its registers have different widths, by which they are told apart
+/// where they are read.
 #[derive(Drop)]
 pub struct Port {
-    pub inner: OneSource,
+    /// The block that is raised.
+    pub block: [u8; LONG],
+    /// How often it is raised.
+    pub raised: usize,
+    /// How many times it was acknowledged.
+    pub acknowledged: usize,
+    /// Whether the acknowledgement of a cleared block is awaited.
+    pub waits: bool,
+    /// Whether a block stands.
+    pub stands: bool,
+    /// What the status address register holds.
+    pub status: u64,
+    /// What the read ack register holds.
+    pub cell: u64,
+    pub ghost is: { IsReady block raised acknowledged waits stands status cell },
 }
 
 // Copies a part of the block that ends within it, and answers whether it does.
-fn copy_within(block: &[u8], skip: usize, into: &mut [u8]) -> bool
+#[inline(always)]
+fn copy_within(block: &[u8; LONG], skip: usize, into: &mut [u8]) -> bool
     ensures copied { result ≡ true → into.new ≡ shown skip (length into.new) block.now }
     ensures kept { result ≡ false → into.new ≡ into.old }
 {
     let count = into.len();
-    if block.len() < count || block.len() - count < skip {
+    if LONG < skip || LONG - skip < count {
         return false;
     }
     into.copy_from_slice(block.split_at(skip).1.split_at(count).0);
     true
 }
 
+// Copies the bytes of a block from a place on, and zeros behind it.
+#[cold]
+#[inline(never)]
+fn copy_slowly(block: &[u8], skip: u128, into: &mut [u8])
+    requires { skip < 2 ^ 65 }
+    ensures { into.new ≡ shown skip (length into.old) block.now }
+{
+    for step in 0..into.len() {
+        into[step] = match usize::try_from(skip + step as u128) {
+            Ok(place) => block.get(place).copied().unwrap_or(0),
+            Err(_) => 0,
+        };
+    }
+}
+
 impl Port {
-    // The bytes of the standing block, none where none stands.
-    fn standing(&self) -> Option<&[u8]>
-        ensures { option_copied result ≡ standing (⟦<OneSource as Bus>⟧.state self.now.inner) }
+    // A write that clears the standing block.
+    #[inline(always)]
+    #[tactic(auto, using(crate::proofs::PortLemmas::clears_is))]
+    fn clears(&self, at: &Region, value: u64) -> bool
+        ensures { result
+            ≡ (same_reach (reach_of at.now) (block_status port_layout)
+            && (value % 2 ^ at.now.width == 0) && is_some (standing (⟦<Port as Bus>⟧.state self.now))) }
     {
-        if self.inner.waits {
-            None
-        } else {
-            self.inner
-                .made
-                .get(self.inner.acknowledged)
-                .map(Bytes::as_slice)
+        value % 0x1_0000_0000 == 0 && self.stands && at.is_same(&Region::memory(AREA, 32))
+    }
+
+    // The bytes of the block that stands, none where none stands.
+    #[tactic(auto, using(crate::proofs::PortLemmas::bytes_are))]
+    fn standing(&self) -> &[u8]
+        ensures { result.now ≡ unwrap_or (standing (⟦<Port as Bus>⟧.state self.now)) [] }
+    {
+        if self.stands { &self.block } else { &[] }
+    }
+
+    // Copies from an address on, whatever stands there.
+    #[cold]
+    #[inline(never)]
+    #[tactic(auto, unfolding(apei_base::specs::Firmware::after_access, apei_base::specs::Firmware::IsAnswered))]
+    fn copy_from(&self, address: u64, skip: usize, into: &mut [u8])
+        ensures { IsPlainStep (⟦<Port as Bus>⟧.state self.now)
+            (Copies (address + skip) into.new) (⟦<Port as Bus>⟧.state self.now) }
+    {
+        let first = u128::from(address) + skip as u128;
+        if let Some(place) = first.checked_sub(u128::from(AREA)) {
+            copy_slowly(self.standing(), place, into);
         }
     }
+}
+
+// Whether this is the read ack register.
+#[inline(always)]
+fn is_ack(at: &Region) -> bool
+    ensures { result ≡ is_ack port_layout (reach_of at.now) }
+{
+    Region::memory(ACK, 32).is_same(at)
 }
 
 impl Bus for Port {
@@ -47,7 +116,7 @@ impl Bus for Port {
 
     ghost State = { Seen };
 
-    ghost state = { λ port. ⟦<OneSource as Bus>⟧.state port.inner };
+    ghost state = { λ p. port_seen p.block p.raised p.acknowledged p.waits p.cell };
 
     ghost step = { IsPlainStep };
 
@@ -59,28 +128,45 @@ impl Bus for Port {
 
     ghost unmapped = { λ before after access step. tt };
 
+    #[inline(always)]
     fn read(&mut self, at: &Region) -> Result<u64, BusFault> {
-        self.inner.read(at)
-    }
-
-    fn write(&mut self, at: &Region, value: u64) -> Result<(), BusFault> {
-        self.inner.write(at, value)
-    }
-
-    fn copy(&mut self, address: u64, skip: usize, into: &mut [u8]) -> Result<(), BusFault> {
-        if address == self.inner.area {
-            if let Some(block) = self.standing() {
-                if copy_within(block, skip, into) {
-                    return Ok(());
-                }
-            }
+        if at.width > 32 {
+            Ok(self.status)
+        } else if at.width == 32 {
+            Ok(self.cell)
+        } else {
+            Ok(0)
         }
-        self.inner.copy(address, skip, into)
+    }
+
+    #[inline(always)]
+    #[tactic(auto, using(crate::proofs::PortLemmas::ack_bits), unfolding(apei_base::specs::Firmware::after_access, apei_base::specs::Firmware::IsAnswered))]
+    fn write(&mut self, at: &Region, value: u64) -> Result<(), BusFault> {
+        if self.clears(at, value) {
+            self.acknowledged += 1;
+            self.stands = false;
+            self.waits = true;
+        } else if is_ack(at) {
+            self.cell = value % 0x1_0000_0000;
+            self.waits = false;
+            self.stands = self.acknowledged < self.raised;
+        }
+        Ok(())
+    }
+
+    #[inline(always)]
+    fn copy(&mut self, address: u64, skip: usize, into: &mut [u8]) -> Result<(), BusFault> {
+        if address == AREA && self.stands && copy_within(&self.block, skip, into) {
+            return Ok(());
+        }
+        self.copy_from(address, skip, into);
+        Ok(())
     }
 }
 
 impl Firmware for Port {
     ghost use Rattle.std.proofs.Common.{refl};
+    ghost use Rattle.nmi_bench.specs.MemoryLaws.{sound};
 
     ghost seen = { Self.state };
 
@@ -90,5 +176,5 @@ impl Firmware for Port {
 
     ghost looks = { λ before after access step look. refl };
 
-    ghost sound = { λ port. port.inner.is.sound };
+    ghost sound = { λ p. sound p.block p.raised p.acknowledged p.waits p.stands p.status p.cell p.is };
 }

@@ -1,16 +1,15 @@
 //! What the callers call on, made before.
-ghost use Rattle.std.specs.Prelude.{◌≡◌, ◌<◌, ◌-◌, ◌^◌, ℕ, length, IfOk};
-ghost use Rattle.std.specs.List.{AllByRecursion};
+ghost use Rattle.std.specs.Prelude.{◌≡◌, ◌<◌, ◌-◌, ◌^◌, ℕ};
 ghost use Rattle.apei_base.specs.Firmware.{IsRaised};
 ghost use Rattle.ghes_call.specs.Receive.{IsOfSource};
 ghost use Rattle.ghes_nmi.specs.Receive.{receive_seen};
 ghost use Rattle.ghes_rule.specs.Kept.{first_pass};
 ghost use Rattle.ghes_rule.specs.Seen.{pass_seen};
+ghost use Rattle.nmi_bench.specs.Memory.{port_layout};
 
 use crate::caller::Caller;
-use crate::port::Port;
-use apei_base::{Bytes, Firmware, Region};
-use apei_mem_bus::OneSource;
+use crate::port::{ACK, AREA, Port, STATUS};
+use apei_base::Region;
 use ghes_context::{AckRule, Context, Receive};
 use ghes_rule::{Pass, Shared};
 use ghes_throttle::ThrottleReader;
@@ -37,58 +36,36 @@ pub fn block() -> [u8; LONG]
     block
 }
 
-// So many blocks.
-#[tactic(auto, using(crate::proofs::PortLemmas::raised_push))]
-pub(crate) fn blocks(alloc: Global, count: usize) -> Result<Vec<Bytes>, AllocError>
-    ensures raised { IfOk result (λ made. AllByRecursion IsRaised made.items) }
-    ensures count { IfOk result (λ made. length made.items ≡ count) }
-{
-    let mut made = Vec::with_capacity(alloc, count)?;
-    for _ in 0..count {
-        made.push(Bytes::copy(alloc, &block())?)?;
-    }
-    Ok(made)
-}
-
-// The memory of a source with a read ack register that is to raise these blocks.
-pub(crate) fn port(made: Vec<Bytes>) -> Port
-    requires raised { AllByRecursion IsRaised made.items }
-    requires few { length made.items < 2 ^ 32 - 1 }
-    ensures { (result.inner.room ≡ 4096) × (result.inner.acknowledged ≡ 0) }
+// The memory of a source with a read ack register that is to raise so many blocks.
+pub(crate) fn port(raised: usize) -> Port
+    requires few { raised < 2 ^ 32 - 1 }
+    ensures { result.acknowledged ≡ 0 }
 {
     Port {
-        inner: OneSource {
-            status: Region::memory(0x1000, 64),
-            ack: Some(Region::memory(0x1008, 32)),
-            area: 0x2000,
-            room: LIMIT as u32,
-            cell: 0,
-            made,
-            acknowledged: 0,
-            waits: false,
-        },
+        block: block(),
+        raised,
+        acknowledged: 0,
+        waits: false,
+        stands: raised > 0,
+        status: if raised > 0 { AREA } else { 0 },
+        cell: 0,
     }
 }
 
 // How such a source is received.
-pub(crate) fn received(source: &OneSource) -> Receive
-    requires { source.now.room ≡ 4096 }
-    ensures source { IsOfSource (receive_seen result) (⟦<OneSource as Firmware>⟧.seen source.now).layout }
+pub(crate) fn received() -> Receive
+    ensures source { IsOfSource (receive_seen result) port_layout }
     ensures limit { result.limit ≡ 4096 }
 {
-    let ack = match source.ack {
-        Some(register) => Some(AckRule {
-            register,
+    Receive {
+        status: Region::memory(STATUS, 64),
+        limit: LIMIT as u32,
+        ack: Some(AckRule {
+            register: Region::memory(ACK, 32),
             bit_offset: 0,
             preserve: 0xffff_fffe,
             write: 1,
         }),
-        None => None,
-    };
-    Receive {
-        status: source.status,
-        limit: source.room,
-        ack,
     }
 }
 
@@ -106,8 +83,7 @@ pub fn caller(
     requires calls { calls < 2 ^ 32 }
 {
     let source = pass.number() as usize;
-    let port = port(blocks(alloc, raised)?);
-    let sources = [received(&port.inner); 4];
+    let sources = [received(); 4];
     let Ok(mut context) = Context::new(alloc, source as u16, pass, reader, &sources, LIMIT) else {
         return Err(AllocError);
     };
@@ -116,7 +92,7 @@ pub fn caller(
         shared,
         context,
         source,
-        port,
+        port: port(raised),
         left: calls,
     })
 }

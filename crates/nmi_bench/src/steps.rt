@@ -3,7 +3,7 @@ ghost use Rattle.std.specs.Prelude.{◌≡◌, ◌≤◌, ◌<◌};
 ghost use Rattle.ghes_call.specs.Receive.{IsOfSource};
 ghost use Rattle.ghes_nmi.specs.Receive.{receive_seen};
 
-use crate::setting::{LIMIT, blocks, port, received};
+use crate::setting::{LIMIT, port, received};
 use apei_base::{BusFault, Firmware};
 use ghes_call::{AckState, Buffer};
 use ghes_context::Receive;
@@ -46,8 +46,8 @@ fn repeated<L: Ledger>(alloc: Global, blank: Blank, times: usize) -> Result<(), 
 {
     let mut steps = Steps::<L>::new(blank);
     for _ in 0..times {
-        let mut port = port(blocks(alloc, 1)?);
-        let receive = received(&port.inner);
+        let mut port = port(1);
+        let receive = received();
         let mut image = Buffer::with_room(alloc, LIMIT)?;
         let _state = steps_of_a_call(&receive, &mut image, &mut port, &mut steps);
     }

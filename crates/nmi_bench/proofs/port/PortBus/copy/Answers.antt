@@ -4,7 +4,8 @@ use Rattle.nmi_bench.proofs.port.PortBus.copy.Goals as goal
 
 pub returns-then-copy_within-clause-access : goal.returns-then-copy_within-clause-access
 returns-then-copy_within-clause-access c =
+    let port = c.args.self.now in
     record {
-      ok = copied _ c.args.address c.args.skip c.in-Some.block.now _ (search rules) (search rules) (search rules);
+      ok = copied port.block port.raised port.acknowledged port.waits port.stands port.status port.cell c.args.address c.args.skip _ port.is (search rules) (search rules) (search rules);
       err = tt;
     }
