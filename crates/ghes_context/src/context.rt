@@ -165,9 +165,7 @@ impl Context {
         ensures room { self.old.room ≤ self.new.room }
         ensures cost { steps.new ≤ steps.old + shared.now.slots + 11 }
     {
-        let Some(pass) = self.pass.take() else {
-            unreachable!();
-        };
+        let pass = self.pass.take().unwrap();
         let ask = Ask {
             shared,
             receive: &self.rest.sources[source],

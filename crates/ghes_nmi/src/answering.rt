@@ -50,11 +50,23 @@ fn low_bits(number: u128) -> u64
     (number & u128::from(u64::MAX)) as u64
 }
 
+// What is written to acknowledge under masks that are not shifted, as those of nearly each table are.
+#[inline(always)]
+fn written_in_place(rule: &AckRule, cell: u64) -> u64
+    requires { rule.now.bit_offset ≡ 0 }
+    ensures { result % 2 ^ rule.now.register.width ≡ acknowledgement (rule_seen rule.now) cell }
+{
+    (cell & rule.preserve) | rule.write
+}
+
 // What is written to acknowledge, told what the register holds: 64 bits of it.
 #[inline(always)]
 fn written(rule: &AckRule, cell: u64) -> u64
     ensures { result % 2 ^ rule.now.register.width ≡ acknowledgement (rule_seen rule.now) cell }
 {
+    if rule.bit_offset == 0 {
+        return written_in_place(rule, cell);
+    }
     let kept = u128::from(cell) & shifted(rule.preserve, rule.bit_offset);
     low_bits(kept | shifted(rule.write, rule.bit_offset))
 }

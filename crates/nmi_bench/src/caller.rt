@@ -2,7 +2,6 @@
 
 use crate::port::Port;
 use apei_base::Firmware;
-use ghes_call::Outcome;
 use ghes_context::Context;
 use ghes_rule::Shared;
 use ghes_steps::Steps;
@@ -37,7 +36,7 @@ impl<'a> Caller<'a> {
 
     /// One call at time 0. It has a place of its own in a profile.
     #[inline(never)]
-    pub fn call<L: Ledger>(&mut self, steps: &mut Steps<L>) -> Outcome
+    pub fn call<L: Ledger>(&mut self, steps: &mut Steps<L>)
         requires { 0 < self.old.left }
         ensures { self.new ≡ record self.old { left = self.old.left - 1 } }
     {
@@ -49,7 +48,7 @@ impl<'a> Caller<'a> {
             port,
             left: _,
         } = self;
-        context.nmi(shared, *source, port, 0, steps).outcome
+        let _reply = context.nmi(shared, *source, port, 0, steps);
     }
 
     /// Whether it is to make another call.
