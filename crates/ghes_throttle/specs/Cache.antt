@@ -45,8 +45,12 @@ window = 10000000000
 
 -- it has these bytes, all of them, from less than the window before now and not from after now (after Linux 6.1,
 -- drivers/acpi/apei/ghes.c; a report from after now: own choice)
+abbrev pub agrees : List ℕ → ℕ → PlaceState → Bool
+agrees bytes now p = nat_le p.time now && (nat_lt (now - p.time) window && pointwise nat_eq p.bytes bytes)
+
+-- it has a report, of these bytes and from within the window (own choice)
 abbrev pub hits : List ℕ → ℕ → PlaceState → Bool
-hits bytes now p = p.full && (nat_le p.time now && (nat_lt (now - p.time) window && pointwise nat_eq p.bytes bytes))
+hits bytes now p = p.full && agrees bytes now p
 
 -- the report number of the lowest place that hits, or none (own choice)
 unfoldable pub hit_of : List PlaceState → List ℕ → ℕ → Option ℕ

@@ -1,6 +1,6 @@
 //! One place of the report cache.
 ghost use Rattle.std.specs.Prelude.{◌≡◌, ◌≤◌, ◌<◌, ◌%◌, length, sum, IfOk, IfSome};
-ghost use Rattle.ghes_throttle.specs.Cache.{PlaceBuffer, empty_place, place_with, is_empty, is_over, hits, sample_of};
+ghost use Rattle.ghes_throttle.specs.Cache.{PlaceBuffer, empty_place, place_with, is_empty, is_over, agrees, hits, sample_of};
 
 use byteorder::{ByteOrder, LittleEndian};
 use std::alloc::{AllocError, Global};
@@ -38,8 +38,8 @@ pub(crate) fn byte_sum(bytes: &[u8]) -> u8
 #[derive(Drop)]
 pub(crate) struct Place {
     full: bool,
-    /// Whether another place of its cache has the same sample. It spares time and decides nothing.
-    twin: bool,
+    /// Whether it is empty, or another place of its cache has the same sample: then it is looked at with care.
+    doubtful: bool,
     bytes: Vec<u8>,
     /// The sample of the bytes.
     sample: u64,
@@ -51,14 +51,14 @@ pub(crate) struct Place {
 }
 
 impl Model for Place {
-    ghost use Rattle.std.specs.Prelude.{◌≡◌, ◌≤◌, ◌%◌, sum, vec_len, vec_capacity};
+    ghost use Rattle.std.specs.Prelude.{◌≡◌, ◌≤◌, ◌%◌, true, false, sum, vec_len, vec_capacity};
     ghost use Rattle.ghes_throttle.specs.Cache.{PlaceBuffer, sample_of};
 
     ghost Value = { PlaceBuffer };
 
     ghost view = { λ p. record { held = record { full = p.full; bytes = p.bytes.items; time = p.time; number = p.number }; room = p.room } };
 
-    ghost invariant = { λ p. (vec_len p.bytes ≤ p.room) × (p.room ≤ vec_capacity p.bytes) × (p.total ≡ sum p.bytes.items % 256) × (p.sample ≡ sample_of p.bytes.items) };
+    ghost invariant = { λ p. (vec_len p.bytes ≤ p.room) × (p.room ≤ vec_capacity p.bytes) × (p.total ≡ sum p.bytes.items % 256) × (p.sample ≡ sample_of p.bytes.items) × (p.doubtful ≡ false → p.full ≡ true) };
 }
 
 impl Place {
@@ -69,7 +69,7 @@ impl Place {
     {
         Ok(Place {
             full: false,
-            twin: false,
+            doubtful: true,
             bytes: Vec::with_capacity(alloc, room)?,
             sample: u64::MAX,
             total: 0,
@@ -114,22 +114,22 @@ impl Place {
         ensures { self.new ≡ self.old }
     {
         let own = self.sample;
-        self.twin = samples.iter().filter(|&&sample| sample == own).count() > 1;
+        let alone = samples.iter().filter(|&&sample| sample == own).count() < 2;
+        self.doubtful = !(self.full && alone);
     }
 
-    // It has a report of these bytes, from within the window before this time.
-    fn holds(&self, bytes: &[u8], now: u64) -> bool
-        ensures { result ≡ hits bytes.now now self.now.held }
+    // Its report, if it has one, is of these bytes, and from within the window before this time.
+    fn agrees(&self, bytes: &[u8], now: u64) -> bool
+        ensures { result ≡ agrees bytes.now now self.now.held }
     {
-        self.full
-            && self.time <= now
+        self.time <= now
             && now - self.time < WINDOW
             && self.bytes.len() == bytes.len()
             && self.bytes.as_slice() == bytes
     }
 
-    /// Whether it has a report of these bytes, from within the window before this time; none where it was told that another place
-    /// has their sample too.
+    /// Whether it has a report of these bytes, from within the window before this time; none where they have its sample, and it is to
+    /// be looked at with care.
     ///
     /// Bytes of another sample or length are not looked at.
     #[tactic(auto, using(crate::proofs::Places::other_sample))]
@@ -140,10 +140,10 @@ impl Place {
         if self.sample != sample {
             return Some(false);
         }
-        if self.twin {
+        if self.doubtful {
             return None;
         }
-        Some(self.holds(bytes, now))
+        Some(self.agrees(bytes, now))
     }
 
     /// It has a report of these bytes, which add up to this, from within the window before this time.
@@ -154,7 +154,7 @@ impl Place {
         requires { total ≡ sum bytes.now % 256 }
         ensures { result ≡ hits bytes.now now self.now.held }
     {
-        self.total == total && self.holds(bytes, now)
+        self.total == total && self.full && self.agrees(bytes, now)
     }
 
     // Holds a report whose bytes have this sample and add up to this.
@@ -195,6 +195,6 @@ impl Place {
             other.number,
         );
         self.full = other.full;
-        self.twin = other.twin;
+        self.doubtful = other.doubtful;
     }
 }
