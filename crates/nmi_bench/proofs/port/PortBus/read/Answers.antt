@@ -23,6 +23,6 @@ pub returns-else-at-eq32-clause-access : goal.returns-else-at-eq32-clause-access
 returns-else-at-eq32-clause-access c =
     let port = c.args.self.now in
     record {
-      ok = reads_none port.block port.raised port.acknowledged port.waits port.cell 0 (reach_of c.args.at.now) (omega arith);
+      ok = reads_none port.block port.raised port.acknowledged port.waits port.cell _ (reach_of c.args.at.now) (omega arith);
       err = tt;
     }
