@@ -77,12 +77,12 @@ reads_status block raised acknowledged waits stands status cell reach ready wide
 )
 
 -- a read of 32 bits answers what the read ack register holds
-pub reads_cell : (block : List ℕ) (raised acknowledged : ℕ) (waits : Bool) (cell : ℕ) (reach : Reach) → reach.width ≡ 32 → IsPlainStep (port_seen block raised acknowledged waits cell) (Reads reach cell) (port_seen block raised acknowledged waits cell)
+pub reads_cell : (block : List ℕ) (raised acknowledged : ℕ) (waits : Bool) (cell value : ℕ) (reach : Reach) → reach.width ≡ 32 → value ≡ cell → IsPlainStep (port_seen block raised acknowledged waits cell) (Reads reach value) (port_seen block raised acknowledged waits cell)
 unfolding after_access IsAnswered
-reads_cell block raised acknowledged waits cell reach narrow = (
+reads_cell block raised acknowledged waits cell value reach narrow is = (
   (
     λ same. absurd (let wide : 64 ≡ reach.width = same_width (register_at 4096 64) reach same in omega (arith, narrow, wide)),
-    λ same. refl,
+    λ same. is,
   ),
   refl,
 )

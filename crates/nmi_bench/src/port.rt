@@ -34,7 +34,7 @@ pub struct Port {
     /// What the status address register holds.
     pub status: u64,
     /// What the read ack register holds.
-    pub cell: u64,
+    pub cell: u32,
     pub ghost is: { IsReady block raised acknowledged waits stands status cell },
 }
 
@@ -83,15 +83,6 @@ fn is_block_status(at: &Region) -> bool
     ensures { result ≡ same_reach (reach_of at.now) (block_status port_layout) }
 {
     is_at(at, AREA)
-}
-
-// What a register holds that is neither: 0.
-#[cold]
-#[inline(never)]
-fn no_register() -> u64
-    ensures { result ≡ 0 }
-{
-    0
 }
 
 impl Port {
@@ -152,9 +143,9 @@ impl Bus for Port {
         if at.width > 32 {
             Ok(self.status)
         } else if at.width == 32 {
-            Ok(self.cell)
+            Ok(u64::from(self.cell))
         } else {
-            Ok(no_register())
+            Ok(0)
         }
     }
 
@@ -166,7 +157,7 @@ impl Bus for Port {
             self.stands = false;
             self.waits = true;
         } else if is_at(at, ACK) {
-            self.cell = value % 0x1_0000_0000;
+            self.cell = (value % 0x1_0000_0000) as u32;
             self.waits = false;
             self.stands = self.acknowledged < self.raised;
         }
