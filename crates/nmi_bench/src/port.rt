@@ -140,10 +140,10 @@ impl Bus for Port {
 
     #[inline(always)]
     fn read(&mut self, at: &Region) -> Result<u64, BusFault> {
-        if at.width > 32 {
-            Ok(self.status)
-        } else if at.width == 32 {
+        if at.width == 32 {
             Ok(u64::from(self.cell))
+        } else if at.width > 32 {
+            Ok(self.status)
         } else {
             Ok(0)
         }
