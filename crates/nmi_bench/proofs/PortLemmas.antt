@@ -1,11 +1,11 @@
 -- What stands in a memory that raises one block so often, and what its accesses answer.
-use Rattle.std.proofs.Common.{◌≡◌, ◌≤◌, ◌<◌, ◌+◌, ◌-◌, ◌%◌, ◌^◌, ℕ, Bool, true, false, not, ◌&&◌, ◌==◌, nat_lt, if◌then◌else◌, List, replicate, Option, Some, None, is_some, slice_get, IsTrue, refl, arith, length, ◌∙◌, ap, sym, ⊎_elim, ◌||◌, unwrap_or, []}
-use Rattle.std.proofs.lemmas.Bool.{cases_lt, cases_Bool}
+use Rattle.std.proofs.Common.{◌≡◌, ◌≤◌, ◌<◌, ◌+◌, ◌-◌, ◌%◌, ◌^◌, ℕ, Bool, true, false, not, ◌&&◌, ◌==◌, nat_lt, if◌then◌else◌, List, replicate, Some, None, is_some, slice_get, IsTrue, refl, arith, length, ◌∙◌, ap, sym, ⊎_elim, ◌||◌, unwrap_or, []}
+use Rattle.std.proofs.lemmas.Bool.{cases_lt}
 use Rattle.std.proofs.lemmas.Bool.Decides.{nat_tests}
 use Rattle.std.proofs.lemmas.List.{get_or-replicate, length-replicate}
 use Rattle.std.proofs.lemmas.Option.{slice_get_past, slice_get_read}
 use Rattle.apei_base.specs.Bus.{same_space, Reach, Reads, Copies, same_reach}
-use Rattle.apei_base.specs.Firmware.{Seen, standing, status_value, shown, block_status, is_ack, after_access, IsAnswered}
+use Rattle.apei_base.specs.Firmware.{standing, status_value, shown, block_status, is_ack, after_access, IsAnswered}
 use Rattle.apei_base.specs.declared.region.Space.{Space}
 use Rattle.apei_base.specs.declared.region.Space.TheVariants.{Memory, Port}
 use Rattle.apei_mem_bus.specs.OneSource.{IsPlainStep}
