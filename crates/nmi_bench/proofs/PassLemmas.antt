@@ -1,5 +1,5 @@
 -- One pass fewer.
-use Rattle.std.proofs.Common.{◌≡◌, ◌≤◌, ◌<◌, ◌++◌, ◌∷◌, ℕ, List, [], length, length-append, arith}
+use Rattle.std.proofs.Common.{◌≡◌, ◌≤◌, ◌<◌, ◌++◌, ◌∷◌, List, [], length, length-append, arith}
 use Rattle.ghes_rule.specs.Seen.{PassSeen}
 
 pub fewer : (before after : List PassSeen) (pass : PassSeen) → before ≡ after ++ pass ∷ [] → length before ≤ 4 → length after < 4

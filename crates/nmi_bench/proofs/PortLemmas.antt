@@ -1,11 +1,13 @@
 -- What stands in a memory that raises one block so often, and what its accesses answer.
-use Rattle.std.proofs.Common.{◌≡◌, ◌≤◌, ◌<◌, ◌+◌, ◌-◌, ◌%◌, ◌^◌, ℕ, Bool, true, false, not, ◌&&◌, ◌==◌, nat_lt, if◌then◌else◌, List, replicate, Option, Some, None, is_some, slice_get, IsTrue, refl, arith, length, ◌∙◌, ap, sym, ⊎_elim, ◌||◌, unwrap_or, []}
-use Rattle.std.proofs.lemmas.Bool.{cases_lt, cases_Bool}
+use Rattle.std.proofs.Common.{◌≡◌, ◌≤◌, ◌<◌, ◌+◌, ◌-◌, ◌%◌, ◌^◌, ℕ, Bool, true, false, not, ◌&&◌, ◌==◌, nat_lt, if◌then◌else◌, List, replicate, Some, None, is_some, slice_get, IsTrue, refl, arith, length, ◌∙◌, ap, sym, ⊎_elim, ◌||◌, unwrap_or, []}
+use Rattle.std.proofs.lemmas.Bool.{cases_lt}
 use Rattle.std.proofs.lemmas.Bool.Decides.{nat_tests}
 use Rattle.std.proofs.lemmas.List.{get_or-replicate, length-replicate}
 use Rattle.std.proofs.lemmas.Option.{slice_get_past, slice_get_read}
-use Rattle.apei_base.specs.Bus.{Reach, Reads, Copies, same_reach}
-use Rattle.apei_base.specs.Firmware.{Seen, standing, status_value, shown, block_status, is_ack, after_access, IsAnswered}
+use Rattle.apei_base.specs.Bus.{same_space, Reach, Reads, Copies, same_reach}
+use Rattle.apei_base.specs.Firmware.{standing, status_value, shown, block_status, is_ack, after_access, IsAnswered}
+use Rattle.apei_base.specs.declared.region.Space.{Space}
+use Rattle.apei_base.specs.declared.region.Space.TheVariants.{Memory, Port}
 use Rattle.apei_mem_bus.specs.OneSource.{IsPlainStep}
 use Rattle.nmi_bench.specs.Memory.{port_layout, port_seen, register_at, area_where, IsReady}
 
@@ -61,7 +63,7 @@ same_numbers s a b m n same = grind (arith, nat_tests)
 
 -- what reaches the same cells is as wide
 same_width : (one other : Reach) → same_reach one other ≡ true → one.width ≡ other.width
-same_width one other same = same_numbers (Rattle.apei_base.specs.Bus.same_space one.space other.space) one.address other.address one.width other.width same
+same_width one other same = same_numbers (same_space one.space other.space) one.address other.address one.width other.width same
 
 -- a wide read answers what the status address register holds
 pub reads_status : (block : List ℕ) (raised acknowledged : ℕ) (waits stands : Bool) (status cell : ℕ) (reach : Reach) → IsReady block raised acknowledged waits stands status cell → 32 < reach.width → IsPlainStep (port_seen block raised acknowledged waits cell) (Reads reach status) (port_seen block raised acknowledged waits cell)
@@ -75,12 +77,12 @@ reads_status block raised acknowledged waits stands status cell reach ready wide
 )
 
 -- a read of 32 bits answers what the read ack register holds
-pub reads_cell : (block : List ℕ) (raised acknowledged : ℕ) (waits : Bool) (cell : ℕ) (reach : Reach) → reach.width ≡ 32 → IsPlainStep (port_seen block raised acknowledged waits cell) (Reads reach cell) (port_seen block raised acknowledged waits cell)
+pub reads_cell : (block : List ℕ) (raised acknowledged : ℕ) (waits : Bool) (cell value : ℕ) (reach : Reach) → reach.width ≡ 32 → value ≡ cell → IsPlainStep (port_seen block raised acknowledged waits cell) (Reads reach value) (port_seen block raised acknowledged waits cell)
 unfolding after_access IsAnswered
-reads_cell block raised acknowledged waits cell reach narrow = (
+reads_cell block raised acknowledged waits cell value reach narrow is = (
   (
     λ same. absurd (let wide : 64 ≡ reach.width = same_width (register_at 4096 64) reach same in omega (arith, narrow, wide)),
-    λ same. refl,
+    λ same. is,
   ),
   refl,
 )
@@ -96,12 +98,30 @@ reads_none block raised acknowledged waits cell value reach narrow = (
   refl,
 )
 
+as_by_parts : (space : Space) (a b m n : ℕ) → ((a == b) && (m == n) && same_space space Memory) ≡ (same_space Memory space && (b == a) && (n == m))
+as_by_parts Memory a b m n = grind (arith, nat_tests)
+as_by_parts Port a b m n = grind (arith, nat_tests)
+
+-- the order in which the parts of a register are compared makes no difference
+pub same_as : (reach : Reach) (address : ℕ) → ((reach.address == address) && (reach.width == 32) && same_space reach.space Memory) ≡ same_reach (register_at address 32) reach
+same_as reach address = as_by_parts reach.space reach.address address reach.width 32
+
+way_by_parts : (p q : Space) (a b m n : ℕ) → (same_space p q && (a == b) && (m == n)) ≡ (same_space q p && (b == a) && (n == m))
+way_by_parts Memory Memory a b m n = grind (arith, nat_tests)
+way_by_parts Port Port a b m n = grind (arith, nat_tests)
+way_by_parts Memory Port a b m n = refl
+way_by_parts Port Memory a b m n = refl
+
+-- which of two registers is named first makes no difference
+pub same_either_way : (one other : Reach) → same_reach one other ≡ same_reach other one
+same_either_way one other = way_by_parts one.space other.space one.address other.address one.width other.width
+
 clears_by_parts : (same : Bool) (reach : Reach) (value : ℕ) (stands : Bool) → (same ≡ true → reach.width ≡ 32) → ((value % 4294967296 == 0) && stands && same) ≡ (same && (value % 2 ^ reach.width == 0) && stands)
 clears_by_parts false reach value stands width = grind (arith, nat_tests)
 clears_by_parts true reach value stands width = rw (width refl) grind (arith, nat_tests)
 
 -- a write of 32 bits clears where all of them are 0
-pub clears_is : (reach : Reach) (value : ℕ) (stands : Bool) → ((value % 4294967296 == 0) && stands && same_reach reach (register_at 8192 32)) ≡ (same_reach reach (block_status port_layout) && (value % 2 ^ reach.width == 0) && stands)
+pub clears_is : (reach : Reach) (value : ℕ) (stands : Bool) → ((value % 4294967296 == 0) && stands && same_reach reach (block_status port_layout)) ≡ (same_reach reach (block_status port_layout) && (value % 2 ^ reach.width == 0) && stands)
 clears_is reach value stands = clears_by_parts (same_reach reach (register_at 8192 32)) reach value stands (same_width reach (register_at 8192 32))
 
 -- the low bits of what is written to the read ack register

@@ -1,12 +1,12 @@
 //! The memory of one source, as quick as memory is: what a register or the area holds stands ready before an access.
 ghost use Rattle.std.specs.Prelude.{◌≡◌, ◌<◌, ◌+◌, ◌%◌, ◌^◌, ◌&&◌, ◌==◌, true, false, length, is_some, unwrap_or, []};
 ghost use Rattle.apei_base.specs.Bus.{Copies, same_reach, reach_of};
-ghost use Rattle.apei_base.specs.Firmware.{Seen, shown, standing, block_status, is_ack};
+ghost use Rattle.apei_base.specs.Firmware.{Seen, shown, standing, block_status};
 ghost use Rattle.apei_mem_bus.specs.OneSource.{IsPlainStep};
-ghost use Rattle.nmi_bench.specs.Memory.{IsReady, port_layout, port_seen};
+ghost use Rattle.nmi_bench.specs.Memory.{IsReady, port_layout, port_seen, register_at};
 
 use crate::setting::LONG;
-use apei_base::{Bus, BusFault, Firmware, Region};
+use apei_base::{Bus, BusFault, Firmware, Region, Space};
 
 /// The address of the status address register, of 64 bits.
 pub const STATUS: u64 = 0x1000;
@@ -34,7 +34,7 @@ pub struct Port {
     /// What the status address register holds.
     pub status: u64,
     /// What the read ack register holds.
-    pub cell: u64,
+    pub cell: u32,
     pub ghost is: { IsReady block raised acknowledged waits stands status cell },
 }
 
@@ -67,6 +67,24 @@ fn copy_slowly(block: &[u8], skip: u128, into: &mut [u8])
     }
 }
 
+// Whether this is the register of 32 bits at an address of memory.
+#[inline(always)]
+#[tactic(auto, using(crate::proofs::PortLemmas::same_as))]
+fn is_at(at: &Region, address: u64) -> bool
+    ensures { result ≡ same_reach (register_at address 32) (reach_of at.now) }
+{
+    at.address == address && at.width == 32 && at.space.is_same(Space::Memory)
+}
+
+// Whether this is the first 32 bits of the area.
+#[inline(always)]
+#[tactic(auto, using(crate::proofs::PortLemmas::same_either_way))]
+fn is_block_status(at: &Region) -> bool
+    ensures { result ≡ same_reach (reach_of at.now) (block_status port_layout) }
+{
+    is_at(at, AREA)
+}
+
 impl Port {
     // A write that clears the standing block.
     #[inline(always)]
@@ -76,7 +94,7 @@ impl Port {
             ≡ (same_reach (reach_of at.now) (block_status port_layout)
             && (value % 2 ^ at.now.width == 0) && is_some (standing (⟦<Port as Bus>⟧.state self.now))) }
     {
-        value % 0x1_0000_0000 == 0 && self.stands && at.is_same(&Region::memory(AREA, 32))
+        value % 0x1_0000_0000 == 0 && self.stands && is_block_status(at)
     }
 
     // The bytes of the block that stands, none where none stands.
@@ -86,28 +104,20 @@ impl Port {
     {
         if self.stands { &self.block } else { &[] }
     }
-
-    // Copies from an address on, whatever stands there.
-    #[cold]
-    #[inline(never)]
-    #[tactic(auto, unfolding(apei_base::specs::Firmware::after_access, apei_base::specs::Firmware::IsAnswered))]
-    fn copy_from(&self, address: u64, skip: usize, into: &mut [u8])
-        ensures { IsPlainStep (⟦<Port as Bus>⟧.state self.now)
-            (Copies (address + skip) into.new) (⟦<Port as Bus>⟧.state self.now) }
-    {
-        let first = u128::from(address) + skip as u128;
-        if let Some(place) = first.checked_sub(u128::from(AREA)) {
-            copy_slowly(self.standing(), place, into);
-        }
-    }
 }
 
-// Whether this is the read ack register.
-#[inline(always)]
-fn is_ack(at: &Region) -> bool
-    ensures { result ≡ is_ack port_layout (reach_of at.now) }
+// Copies from an address on, whatever stands there.
+#[cold]
+#[inline(never)]
+#[tactic(auto, unfolding(apei_base::specs::Firmware::after_access, apei_base::specs::Firmware::IsAnswered))]
+fn copy_from(address: u64, into: &mut [u8], port: &Port, skip: usize)
+    ensures { IsPlainStep (⟦<Port as Bus>⟧.state port.now)
+        (Copies (address + skip) into.new) (⟦<Port as Bus>⟧.state port.now) }
 {
-    Region::memory(ACK, 32).is_same(at)
+    let first = u128::from(address) + skip as u128;
+    if let Some(place) = first.checked_sub(u128::from(AREA)) {
+        copy_slowly(port.standing(), place, into);
+    }
 }
 
 impl Bus for Port {
@@ -130,10 +140,10 @@ impl Bus for Port {
 
     #[inline(always)]
     fn read(&mut self, at: &Region) -> Result<u64, BusFault> {
-        if at.width > 32 {
+        if at.width == 32 {
+            Ok(u64::from(self.cell))
+        } else if at.width > 32 {
             Ok(self.status)
-        } else if at.width == 32 {
-            Ok(self.cell)
         } else {
             Ok(0)
         }
@@ -146,8 +156,8 @@ impl Bus for Port {
             self.acknowledged += 1;
             self.stands = false;
             self.waits = true;
-        } else if is_ack(at) {
-            self.cell = value % 0x1_0000_0000;
+        } else if is_at(at, ACK) {
+            self.cell = (value % 0x1_0000_0000) as u32;
             self.waits = false;
             self.stands = self.acknowledged < self.raised;
         }
@@ -159,7 +169,7 @@ impl Bus for Port {
         if address == AREA && self.stands && copy_within(&self.block, skip, into) {
             return Ok(());
         }
-        self.copy_from(address, skip, into);
+        copy_from(address, into, self, skip);
         Ok(())
     }
 }

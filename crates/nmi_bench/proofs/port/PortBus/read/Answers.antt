@@ -15,14 +15,14 @@ pub returns-then-at-eq32-clause-access : goal.returns-then-at-eq32-clause-access
 returns-then-at-eq32-clause-access c =
     let port = c.args.self.now in
     record {
-      ok = reads_cell port.block port.raised port.acknowledged port.waits port.cell (reach_of c.args.at.now) (omega arith);
+      ok = reads_cell port.block port.raised port.acknowledged port.waits port.cell _ (reach_of c.args.at.now) (omega arith) (search rules);
       err = tt;
     }
 
-pub returns-else-at-eq32-clause-access : goal.returns-else-at-eq32-clause-access
-returns-else-at-eq32-clause-access c =
+pub returns-else-at-gt32-clause-access : goal.returns-else-at-gt32-clause-access
+returns-else-at-gt32-clause-access c =
     let port = c.args.self.now in
     record {
-      ok = reads_none port.block port.raised port.acknowledged port.waits port.cell 0 (reach_of c.args.at.now) (omega arith);
+      ok = reads_none port.block port.raised port.acknowledged port.waits port.cell _ (reach_of c.args.at.now) (omega arith);
       err = tt;
     }
