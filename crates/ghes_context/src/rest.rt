@@ -6,7 +6,7 @@ ghost use Rattle.ghes_context.specs.Context.{FitsLimit, IsKeeping, KeepsRest};
 ghost use Rattle.ghes_context.specs.Ends.{counted};
 
 use crate::ask::Kept;
-use ghes_call::{AckState, Buffer, Call, Outcome, Packet, Reply};
+use ghes_call::{Buffer, Call, Outcome, Packet, Reply};
 use ghes_nmi::Receive;
 use ghes_throttle::ThrottleReader;
 use std::alloc::{AllocError, Global};
@@ -71,18 +71,6 @@ fn acknowledges(outcome: Outcome) -> bool
     }
 }
 
-// The state made anew, so that no bytes beside it are copied.
-#[inline(always)]
-fn again(ack: AckState) -> AckState
-    ensures { result ≡ ack }
-{
-    match ack {
-        AckState::NotAsked => AckState::NotAsked,
-        AckState::Done => AckState::Done,
-        AckState::Failed => AckState::Failed,
-    }
-}
-
 // Counts a block of a source where it was acknowledged.
 #[inline(always)]
 fn count(acknowledged: &mut [u32], source: usize, outcome: Outcome)
@@ -115,10 +103,7 @@ impl Rest {
             context: self.number,
             source: source as u16,
             now,
-            reply: Reply {
-                outcome: reply.outcome,
-                ack: again(reply.ack),
-            },
+            reply,
         };
         self.log.push_reserved(call);
     }

@@ -20,12 +20,16 @@ pub record CacheState : Type 0 where
   pub places : List PlaceState
   pub block_len : ℕ
 
--- two words of a block, added: the first and the last of its last 64 bytes, and 2^64 - 1 where there are fewer. It spares comparisons
--- and decides nothing (own choice)
+-- three words of the last 88 bytes of a block, added (own choice)
+abbrev pub three_words : List ℕ → ℕ
+three_words last = ((little_number 8 last + little_number 8 (drop 24 last)) % 2 ^ 64 + little_number 8 (drop 80 last)) % 2 ^ 64
+
+-- those at the front of its last 88 and of its last 64 bytes, and its last; 2^64 - 1 where it has fewer bytes. It spares comparisons and
+-- decides nothing (own choice)
 unfoldable pub sample_of : List ℕ → ℕ
 sample_of bytes =
-    if nat_lt (length bytes) 64 then 2 ^ 64 - 1
-    else ((little_number 8 (drop (length bytes - 64) bytes) + little_number 8 (drop 56 (drop (length bytes - 64) bytes))) % 2 ^ 64)
+    if nat_lt (length bytes) 88 then 2 ^ 64 - 1
+    else three_words (drop (length bytes - 88) bytes)
 
 -- a place with no report (own choice)
 abbrev pub empty_place : PlaceState

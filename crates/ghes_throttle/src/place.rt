@@ -1,6 +1,6 @@
 //! One place of the report cache.
 ghost use Rattle.std.specs.Prelude.{◌≡◌, ◌≤◌, ◌<◌, ◌%◌, length, sum, IfOk, IfSome};
-ghost use Rattle.ghes_throttle.specs.Cache.{PlaceBuffer, empty_place, place_with, is_empty, is_over, agrees, hits, sample_of};
+ghost use Rattle.ghes_throttle.specs.Cache.{PlaceBuffer, empty_place, place_with, is_empty, is_over, agrees, hits, sample_of, three_words};
 
 use byteorder::{ByteOrder, LittleEndian};
 use std::alloc::{AllocError, Global};
@@ -9,18 +9,30 @@ use std::marker::Model;
 /// How long a report hits, in nanoseconds.
 const WINDOW: u64 = 10_000_000_000;
 
-/// Two words of a block, added: the first and the last of its last 64 bytes, and 2^64 - 1 where there are fewer.
+// Three words of the last 88 bytes of a block, added: those at their front and at the front of their last 64, and the last.
+#[inline(always)]
+fn three_words(last: &[u8]) -> u64
+    requires { 88 ≤ length last.now }
+    ensures { result ≡ three_words last.now }
+{
+    LittleEndian::read_u64(last)
+        .wrapping_add(LittleEndian::read_u64(last.split_at(24).1))
+        .wrapping_add(LittleEndian::read_u64(last.split_at(80).1))
+}
+
+/// Three words of a block, added: those at the front of its last 88 and of its last 64 bytes, and its last; 2^64 - 1 where it has
+/// fewer than 88 bytes.
 ///
-/// Blocks that differ in it are not compared. Of a memory error the first is the physical address. Source: UEFI 2.10, N.2.5.
+/// Blocks that differ in it are not compared. Where a block ends with a memory error of 80 bytes, the first is the time stamp of its
+/// entry, and the second the physical address. Source: UEFI 2.10, N.2.5, and ACPI 6.5, 18.3.2.7.1.
 #[tactic(auto, unfolding(crate::specs::Cache::sample_of))]
 pub(crate) fn sample(bytes: &[u8]) -> u64
     ensures { result ≡ sample_of bytes.now }
 {
-    if bytes.len() < 64 {
+    if bytes.len() < 88 {
         return u64::MAX;
     }
-    let last = bytes.split_at(bytes.len() - 64).1;
-    LittleEndian::read_u64(last).wrapping_add(LittleEndian::read_u64(last.split_at(56).1))
+    three_words(bytes.split_at(bytes.len() - 88).1)
 }
 
 /// What the bytes add up to, modulo 256. Blocks that differ in it are not compared.

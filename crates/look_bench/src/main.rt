@@ -1,9 +1,9 @@
 //! Looks into the report cache, so that `bench/looks.py` can count what one costs.
 //!
-//! Five words: the length of the block that is looked for, up to 164 bytes, how many reports are made, how many looks follow each
-//! report, how many more follow the last, and what is looked for: the number of one of four memory errors, 0 to 3, which differ in
-//! their physical address and are reported in turn; or `other`, a block whose last byte no report has. The answer is how many looks
-//! hit.
+//! Five or six words: the length of the block that is looked for, up to 164 bytes, how many reports are made, how many looks follow
+//! each report, how many more follow the last, and what is looked for: the number of one of four memory errors, 0 to 3, which are
+//! reported in turn; or `other`, a block whose last byte no report has. The sixth word is where the four differ, as an offset in the
+//! block; without it, in their physical address. The answer is how many looks hit.
 #![tactic(auto)]
 
 ghost use Rattle.std.specs.Prelude.{◌≡◌, ◌<◌, length};
@@ -45,10 +45,12 @@ fn looks(reader: &mut ThrottleReader, block: &[u8], times: u64) -> u64 {
     hits
 }
 
-// The block of a memory error, 164 bytes, at one of four physical addresses.
-fn error_at(index: u32) -> [u8; LONGEST] {
+// The block of a memory error, 164 bytes, one of four that differ in the byte at this offset.
+fn error_at(index: u32, offset: usize) -> [u8; LONGEST] {
     let mut block = [7u8; LONGEST];
-    block[ADDRESS] = (index % 4) as u8;
+    if let Some(byte) = block.get_mut(offset) {
+        *byte = (index % 4) as u8;
+    }
     block
 }
 
@@ -61,20 +63,21 @@ fn reports<R: Wait>(
     times: u32,
     each: u64,
     last: u64,
+    offset: usize,
 ) -> u64
     requires { (writer.old.block_len ≡ 164) × (length writer.old.list < 2) }
 {
     let mut hits = 0u64;
     for index in 0..times {
-        let _ = writer.report(rt, &error_at(index), 0);
+        let _ = writer.report(rt, &error_at(index, offset), 0);
         hits = hits.wrapping_add(looks(reader, block, each));
     }
     hits.wrapping_add(looks(reader, block, last))
 }
 
 // The block that is looked for, of 164 bytes.
-fn sought(what: &str) -> [u8; LONGEST] {
-    let mut block = error_at(what.parse::<u32>().unwrap_or(0));
+fn sought(what: &str, offset: usize) -> [u8; LONGEST] {
+    let mut block = error_at(what.parse::<u32>().unwrap_or(0), offset);
     if what == "other" {
         block[LONGEST - 1] = 8;
     }
@@ -85,7 +88,11 @@ fn main(rt: HostRuntime) -> io::Result<()> {
     let length = number(&rt, 1).min(LONGEST as u64) as usize;
     let times = number(&rt, 2).min(1_000_000) as u32;
     let (each, last) = (number(&rt, 3), number(&rt, 4));
-    let block = sought(word(&rt, 5).as_str());
+    let offset = match number(&rt, 6) {
+        0 => ADDRESS,
+        told => told as usize,
+    };
+    let block = sought(word(&rt, 5).as_str(), offset);
     let (mut writer, mut readers) = throttle(&rt, rt.alloc(), LONGEST, 1)?;
     let hits = reports(
         &rt,
@@ -95,6 +102,7 @@ fn main(rt: HostRuntime) -> io::Result<()> {
         times,
         each,
         last,
+        offset,
     );
     writer.end(&rt);
     println!(rt; "{hits} hits")
