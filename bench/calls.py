@@ -1,7 +1,8 @@
 """How many instructions one call of a context costs, and how long it takes beside others.
 
 Build the program first: `rt run` in crates/nmi_bench. The instructions want valgrind. A source has a read ack register of 32 bits and
-blocks of 164 bytes, and there are 16 slots. Counted is all below one call, with its accesses of memory, which is copied in one move.
+blocks of 164 bytes, and there are 16 slots. Counted is all below one call, with its accesses of memory. It makes two copies, each in
+one move.
 """
 import os
 import re
@@ -10,7 +11,7 @@ import time
 
 TOP = os.path.dirname(os.path.dirname(os.path.abspath(__file__)))
 PROGRAM = os.path.join(TOP, "crates/nmi_bench/out/nmi_bench")
-CALL = "nmi_bench::caller::Caller::call*"
+CALL = "nmi_bench::caller::nmi_call*"
 STEPS = "nmi_bench::steps::steps_of_a_call*"
 # What is counted, whether the blocks were reported before, and whether a block stands at each call.
 KINDS = {

@@ -1,8 +1,9 @@
 -- What stands in a memory that raises one block so often, and what its accesses answer.
-use Rattle.std.proofs.Common.{◌≡◌, ◌≤◌, ◌<◌, ◌+◌, ◌-◌, ◌%◌, ◌^◌, ℕ, Bool, true, false, not, ◌&&◌, ◌==◌, nat_lt, if◌then◌else◌, List, replicate, Some, None, is_some, slice_get, IsTrue, refl, arith, length, ◌∙◌, ap, sym, ⊎_elim, ◌||◌, unwrap_or, []}
+use Rattle.std.proofs.Common.{◌≡◌, ◌≤◌, ◌<◌, ◌+◌, ◌-◌, ◌%◌, ◌^◌, ℕ, Bool, true, false, not, ◌&&◌, ◌==◌, nat_lt, if◌then◌else◌, List, replicate, Some, None, is_some, slice_get, IsTrue, refl, arith, length, ◌∙◌, ap, sym, ⊎_elim, ◌||◌, unwrap_or, [], ◌++◌, take, drop}
 use Rattle.std.proofs.lemmas.Bool.{cases_lt}
 use Rattle.std.proofs.lemmas.Bool.Decides.{nat_tests}
-use Rattle.std.proofs.lemmas.List.{get_or-replicate, length-replicate}
+use Rattle.std.proofs.lemmas.List.{get_or-replicate, length-replicate, drop-append-le}
+use Rattle.std.proofs.Math.Seq.{take-append_seam}
 use Rattle.std.proofs.lemmas.Option.{slice_get_past, slice_get_read}
 use Rattle.apei_base.specs.Bus.{same_space, Reach, Reads, Copies, same_reach}
 use Rattle.apei_base.specs.Firmware.{standing, status_value, shown, block_status, is_ack, after_access, IsAnswered}
@@ -136,3 +137,11 @@ copied block raised acknowledged waits stands status cell address skip bytes rea
     let stood : unwrap_or (standing (port_seen block raised acknowledged waits cell)) [] ≡ block =
     bytes_are block raised acknowledged waits stands status cell ready ∙ ap (λ (b : Bool). if b then block else []) stand in
     (λ low high. cc (is, stood, place), refl)
+
+-- what is behind a place of a block is what is shown from there on
+pub shown_behind : (skip : ℕ) (block rest : List ℕ) → skip ≤ length block → rest ≡ drop skip block → rest ≡ shown skip (length rest) block
+shown_behind skip block rest within is =
+    let zeros = replicate (skip + length rest) 0 in
+    sym
+    (ap (take (length rest)) (drop-append-le skip block zeros within ∙ ap (λ bytes. bytes ++ zeros) (sym is))
+    ∙ take-append_seam rest zeros)

@@ -1,4 +1,6 @@
 //! A context with the memory of its source, and its calls.
+ghost use Rattle.std.specs.Prelude.{◌≡◌, ◌≤◌, ◌<◌, ◌+◌, ◌^◌, length};
+ghost use Rattle.ghes_context.specs.Nmi.{IsPortOf};
 
 use crate::port::Port;
 use apei_base::Firmware;
@@ -30,25 +32,47 @@ impl<'a> Model for Caller<'a> {
     ghost invariant = { λ c. IsReadyFor c.shared.now c.left c.source c.context (⟦<Port as Firmware>⟧.seen c.port) };
 }
 
+// One call of a context on its source, at time 0. It has a place of its own in a profile.
+#[inline(never)]
+fn nmi_call<L: Ledger>(
+    shared: &Shared,
+    context: &mut Context,
+    source: usize,
+    port: &mut Port,
+    steps: &mut Steps<L>,
+)
+    requires belongs { context.old.pass.table ≡ shared.now }
+    requires within { source < length context.old.sources }
+    requires port { IsPortOf context.old source (⟦<Port as Firmware>⟧.seen port.old) }
+    requires few { length context.old.pass.view.claims < 2 ^ 32 }
+    requires room { length context.old.calls < context.old.room }
+    ensures belongs { context.new.pass.table ≡ shared.now }
+    ensures sources { context.new.sources ≡ context.old.sources }
+    ensures port { IsPortOf context.new source (⟦<Port as Firmware>⟧.seen port.new) }
+    ensures claims { length context.new.pass.view.claims ≤ length context.old.pass.view.claims + 1 }
+    ensures calls { length context.new.calls ≡ length context.old.calls + 1 }
+    ensures room { context.old.room ≤ context.new.room }
+{
+    let _reply = context.nmi(shared, source, port, 0, steps);
+}
+
 impl<'a> Caller<'a> {
-    ghost use Rattle.std.specs.Prelude.{◌≡◌, ◌<◌, ◌-◌};
+    ghost use Rattle.std.specs.Prelude.{◌-◌};
     ghost use Rattle.std.specs.Bool.{OnTrue};
 
-    /// One call at time 0. It has a place of its own in a profile.
-    #[inline(never)]
+    /// One call at time 0.
     pub fn call<L: Ledger>(&mut self, steps: &mut Steps<L>)
         requires { 0 < self.old.left }
         ensures { self.new ≡ record self.old { left = self.old.left - 1 } }
     {
         self.left -= 1;
-        let Caller {
-            shared,
-            context,
-            source,
-            port,
-            left: _,
-        } = self;
-        let _reply = context.nmi(shared, *source, port, 0, steps);
+        nmi_call(
+            self.shared,
+            &mut self.context,
+            self.source,
+            &mut self.port,
+            steps,
+        );
     }
 
     /// Whether it is to make another call.

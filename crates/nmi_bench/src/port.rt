@@ -17,6 +17,12 @@ pub const ACK: u64 = 0x1008;
 /// The address of the area, of 4,096 bytes.
 pub const AREA: u64 = 0x2000;
 
+// The length of a header in bytes.
+const HEADER: usize = 20;
+
+// How many bytes are behind the header.
+const REST: usize = LONG - HEADER;
+
 /// The memory of one source, which raises one block so often. Its registers have different widths, by which they are told apart
 /// where they are read.
 #[derive(Drop)]
@@ -38,18 +44,49 @@ pub struct Port {
     pub ghost is: { IsReady block raised acknowledged waits stands status cell },
 }
 
-// Copies a part of the block that ends within it, and answers whether it does.
+// Copies the header of the block, if that is what is asked for, and answers whether it is.
 #[inline(always)]
-fn copy_within(block: &[u8; LONG], skip: usize, into: &mut [u8]) -> bool
+fn copy_header(block: &[u8; LONG], into: &mut [u8]) -> bool
+    ensures copied { result ≡ true → into.new ≡ shown 0 (length into.new) block.now }
+    ensures kept { result ≡ false → into.new ≡ into.old }
+{
+    let (header, _rest) = block.split_at(HEADER);
+    match (header.as_array::<HEADER>(), into.as_mut_array::<HEADER>()) {
+        (Some(header), Some(into)) => {
+            *into = *header;
+            true
+        }
+        _ => false,
+    }
+}
+
+// Copies what is behind the header, if that is what is asked for, and answers whether it is.
+#[inline(always)]
+fn copy_rest(block: &[u8; LONG], into: &mut [u8]) -> bool
+    ensures copied { result ≡ true → into.new ≡ shown 20 (length into.new) block.now }
+    ensures kept { result ≡ false → into.new ≡ into.old }
+{
+    let (_header, rest) = block.split_at(HEADER);
+    match (rest.as_array::<REST>(), into.as_mut_array::<REST>()) {
+        (Some(rest), Some(into)) => {
+            *into = *rest;
+            true
+        }
+        _ => false,
+    }
+}
+
+// Copies the header of the block or what is behind it, if that is what is asked for, and answers whether it is.
+#[inline(always)]
+fn copy_part(block: &[u8; LONG], skip: usize, into: &mut [u8]) -> bool
     ensures copied { result ≡ true → into.new ≡ shown skip (length into.new) block.now }
     ensures kept { result ≡ false → into.new ≡ into.old }
 {
-    let count = into.len();
-    if LONG < skip || LONG - skip < count {
-        return false;
+    match skip {
+        HEADER => copy_rest(block, into),
+        0 => copy_header(block, into),
+        _ => false,
     }
-    into.copy_from_slice(block.split_at(skip).1.split_at(count).0);
-    true
 }
 
 // Copies the bytes of a block from a place on, and zeros behind it.
@@ -140,10 +177,10 @@ impl Bus for Port {
 
     #[inline(always)]
     fn read(&mut self, at: &Region) -> Result<u64, BusFault> {
-        if at.width == 32 {
-            Ok(u64::from(self.cell))
-        } else if at.width > 32 {
+        if at.width > 32 {
             Ok(self.status)
+        } else if at.width == 32 {
+            Ok(u64::from(self.cell))
         } else {
             Ok(0)
         }
@@ -166,7 +203,7 @@ impl Bus for Port {
 
     #[inline(always)]
     fn copy(&mut self, address: u64, skip: usize, into: &mut [u8]) -> Result<(), BusFault> {
-        if address == AREA && self.stands && copy_within(&self.block, skip, into) {
+        if address == AREA && self.stands && copy_part(&self.block, skip, into) {
             return Ok(());
         }
         copy_from(address, into, self, skip);

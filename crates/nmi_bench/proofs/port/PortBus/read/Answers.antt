@@ -19,8 +19,8 @@ returns-then-at-eq32-clause-access c =
       err = tt;
     }
 
-pub returns-else-at-gt32-clause-access : goal.returns-else-at-gt32-clause-access
-returns-else-at-gt32-clause-access c =
+pub returns-else-at-eq32-clause-access : goal.returns-else-at-eq32-clause-access
+returns-else-at-eq32-clause-access c =
     let port = c.args.self.now in
     record {
       ok = reads_none port.block port.raised port.acknowledged port.waits port.cell _ (reach_of c.args.at.now) (omega arith);
